@@ -1,0 +1,3 @@
+pub mod Kinds
+pub mod Stations
+pub mod Places
