@@ -1,11 +1,14 @@
 -- The items of the first slots, by number.
-use Prim.Native.Nat.{ℕ, _-_, _<_, _≤_}
-use lib.ListN.{length, take, getD}
-use mathlib.Core.List.{List}
+use Prim.Native.Nat.{ℕ, _+_, _-_, _<_, _≤_}
+use lib.Dec.{leb}
+use lib.ListN.{length, take, getD, set}
+use mathlib.Core.Bool.{true}
+use mathlib.Core.List.{List, [], _∷_, _++_}
 use mathlib.Core.Path.{_≡_, sym, ap, _∙_}
 use native.Mathlib.Omega.{arith}
-use Rattle.std.proofs.shelf.Lists.{getD-take, length-take-le, take-take}
+use Rattle.std.proofs.shelf.Lists.{append-assoc, getD-take, length-take-le, take-all, take-more, take-more-set, take-take}
 use Rattle.std.proofs.shelf.Maps.{nth-getD, nth-past}
+use Rattle.std.proofs.shelf.Ways.{tells}
 use Rattle.std.specs.Finite.{nth}
 use Rattle.std.specs.declared.option.Option.the-variants.{Some, None}
 
@@ -36,3 +39,22 @@ front-shorter xs n w =
     let count : length (take n xs) ≡ n = length-take-le n xs w in
     let low : n - 1 ≤ n = omega arith in
     sym (ap (λ k. take (k - 1) (take n xs)) count ∙ take-take (n - 1) n xs low)
+
+-- one item more of those to come
+pub front-more :
+    {T : Type 0} (slots front more : List T) (n i : ℕ) (x : T)
+    → n < length slots → i < length more → x ≡ getD more i x → take n slots ≡ front ++ take i more → take (n + 1) (set slots n x) ≡ front ++ take (i + 1) more
+front-more slots front more n i x h k e w =
+    take-more-set slots n x h
+    ∙ ap (λ l. l ++ x ∷ []) w
+    ∙ append-assoc front (take i more) (x ∷ [])
+    ∙ ap (λ y. front ++ (take i more ++ y ∷ [])) e
+    ∙ ap (λ l. front ++ l) (sym (take-more more i x k))
+
+-- all items that were to come
+pub front-all : {T : Type 0} (held front more : List T) (i : ℕ) → length more ≤ i → held ≡ front ++ take i more → held ≡ front ++ more
+front-all held front more i h w = w ∙ ap (λ l. front ++ l) (take-all i more h)
+
+-- there was room for so many more
+pub front-room : {T : Type 0} (xs : List T) (n m most : ℕ) → n ≤ length xs → n + m ≤ most → true ≡ leb (length (take n xs) + m) most
+front-room xs n m most w h = let count = length-take-le n xs w in grind (arith, tells)

@@ -5,6 +5,10 @@ ghost use lib.ListN.{length};
 
 mod list;
 
+// There is no room for more.
+#[derive(Clone, Copy)]
+pub struct Full;
+
 // The first `len` slots hold the list; what the others hold is never seen.
 #[derive(Drop)]
 pub struct Bounded<T, const N: usize> {

@@ -1,14 +1,15 @@
 // What can be done with a bounded list, told by the list that it stands for.
-ghost use Prim.Native.Nat.{_≤_, _<_, _-_};
-ghost use lib.Dec.{ltb, eqb};
+ghost use Prim.Native.Nat.{_≤_, _-_, _+_};
+ghost use lib.Dec.{ltb, leb, eqb};
 ghost use lib.ListN.{length, take};
 ghost use mathlib.Core.Bool.{cond};
 ghost use mathlib.Core.List.{[], _∷_, _++_};
 ghost use mathlib.Core.Path.{_≡_};
-ghost use Rattle.std.specs.declared.result.Result.the-variants.{Ok, Err};
+ghost use Rattle.std.specs.Results.{isOk};
 ghost use Rattle.std.specs.Finite.{nth};
 ghost use Rattle.bounded.specs.Items.{items, last};
 use super::Bounded;
+use super::Full;
 
 impl<T: Copy, const N: usize> Bounded<T, N> {
     // An empty list; `blank` fills the slots that are not used.
@@ -53,18 +54,33 @@ impl<T: Copy, const N: usize> Bounded<T, N> {
         }
     }
 
-    // One item more at the end; a full list stays as it is and gives the item back.
-    pub fn push(&mut self, item: T) -> Result<(), T>
-        ensures value { λ r. ⌜ r ≡ cond (ltb (length (items (now (self .entry)))) N) (Ok tt) (Err item) ⌝ }
-        ensures after { λ _. ⌜ items (now (self .exit)) ≡ cond (ltb (length (items (now (self .entry)))) N) (items (now (self .entry)) ++ (item ∷ [])) (items (now (self .entry))) ⌝ }
+    // One item more at the end; a full list stays as it is.
+    pub fn push(&mut self, item: T) -> Result<(), Full>
+        ensures value { λ r. ⌜ isOk r ≡ ltb (length (items (now (self .entry)))) N ⌝ }
+        ensures after { λ r. ⌜ items (now (self .exit)) ≡ cond (isOk r) (items (now (self .entry)) ++ (item ∷ [])) (items (now (self .entry))) ⌝ }
     {
         if self.len < N {
             self.slots[self.len] = item;
             self.len += 1;
             Ok(())
         } else {
-            Err(item)
+            Err(Full)
         }
+    }
+
+    // All of `more` at the end; a list without room for them stays as it is.
+    pub fn extend_from_slice(&mut self, more: &[T]) -> Result<(), Full>
+        ensures value { λ r. ⌜ isOk r ≡ leb (length (items (now (self .entry))) + length (now (more .entry))) N ⌝ }
+        ensures after { λ r. ⌜ items (now (self .exit)) ≡ cond (isOk r) (items (now (self .entry)) ++ now (more .entry)) (items (now (self .entry))) ⌝ }
+    {
+        if N - self.len < more.len() {
+            return Err(Full);
+        }
+        for item in more {
+            self.slots[self.len] = *item;
+            self.len += 1;
+        }
+        Ok(())
     }
 
     // Takes the last item off; an empty list stays as it is.
