@@ -7,7 +7,8 @@ use mathlib.Core.Bool.{Bool, cond, _&&_}
 use mathlib.Core.List.{List, [], _∷_, _++_}
 use Rattle.std.specs.declared.result.Result.{Result}
 use Rattle.std.specs.declared.result.Result.the-variants.{Ok, Err}
-use Rattle.tables.specs.Kinds.{kind-of}
+use Rattle.std.specs.Joined.{joined}
+use Rattle.tables.specs.Stations.{Station, rows}
 use Rattle.tables.specs.declared.records.Kind.{Kind}
 use Rattle.tables.specs.declared.records.Kind.the-variants.{Communicators, Modules, Modes, Tasks, Reads, Writes, Dependencies, Switches}
 use Rattle.tables.specs.declared.records.Record.{Record}
@@ -88,3 +89,7 @@ whole-read (Ok k) bs = cond (ltb (length bs) (size k)) (Err Cut) (Ok (fields-rea
 -- The record that the bytes begin with, or what is wrong with them.
 abbrev pub record-read : List ℕ → Result Record Flaw
 record-read bs = whole-read (kind-read bs) bs
+
+-- The bytes of a station: those of its records in their order.
+abbrev pub station-bytes : Station → List ℕ
+station-bytes s = joined record-bytes (rows s)

@@ -74,7 +74,7 @@ none-left : (bs : List ℕ) → eqb (length bs) 0 ≡ true → length bs ≡ 0
 none-left bs e = grind (arith, tells)
 
 -- a record is never without bytes
-size-some : (k : Kind) → 0 < size k
+pub size-some : (k : Kind) → 0 < size k
 size-some Communicators = omega arith
 size-some Modules = omega arith
 size-some Modes = omega arith

@@ -5,7 +5,7 @@ use mathlib.Core.Path.{_≡_}
 use Rattle.reader.specs.Steps.{standing}
 use Rattle.reader.specs.Walks.{records, walked}
 use Rattle.tables.specs.Stations.{station}
-use Rattle.reader.proofs.walks.walk.Given as given
+use Rattle.reader.proofs.walks.filled.Given as given
 
 -- what is left to walk completes the station, and there are fewer records than bytes passed
 abbrev pub Inv-loop-next : given.InvT-loop-next
