@@ -2,7 +2,6 @@
 ghost use mathlib.Core.Path.{_≡_};
 ghost use Rattle.fault.specs.Refusals.{number, told};
 
-
 // The part that refuses.
 #[derive(Clone, Copy, PartialEq, Eq, Debug)]
 pub enum Part {
@@ -104,6 +103,10 @@ impl Fault {
             Fault::Trap { cause: _, address } => (Part::Machine, 17, Some(address)),
             Fault::NothingThere => (Part::Machine, 18, None),
         };
-        Refusal { part, number, value }
+        Refusal {
+            part,
+            number,
+            value,
+        }
     }
 }

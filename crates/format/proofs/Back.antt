@@ -92,7 +92,7 @@ Found bs k rest = rest ≡ Ok k → marked bs k ≡ true
 found-here : (bs : List ℕ) (k j : Kind) (rest : Result Kind Flaw) → Found bs k rest → Found bs k (cond (marked bs j) (Ok j) rest)
 found-here bs k j rest more e =
     elim (cases-bool (marked bs j)) [
-        inl t ↦ let same : k ≡ j = cc in ap (marked bs) same ∙ t
+      | inl t ↦ let same : k ≡ j = cc in ap (marked bs) same ∙ t
       | inr f ↦ more (cc)
     ]
 
@@ -101,16 +101,16 @@ pub kind-marked : (bs : List ℕ) (k : Kind) → kind-read bs ≡ Ok k → marke
 kind-marked bs k e =
     let none : Found bs k (Err UnknownMark) = λ e. let z : _≡_ {A = ℕ} 0 1 = cc in absurd (omega arith) in
     let chain =
-        found-here bs k Communicators _
-        (found-here bs k Modules _
-        (found-here bs k Modes _
-        (found-here bs k Tasks _
-        (found-here bs k Reads _
-        (found-here bs k Writes _
-        (found-here bs k Dependencies _
-        (found-here bs k Switches _ none))))))) in
+    found-here bs k Communicators _
+    (found-here bs k Modules _
+    (found-here bs k Modes _
+    (found-here bs k Tasks _
+    (found-here bs k Reads _
+    (found-here bs k Writes _
+    (found-here bs k Dependencies _
+    (found-here bs k Switches _ none))))))) in
     elim (cases-bool (ltb (length bs) 2)) [
-        inl t ↦ let z : _≡_ {A = ℕ} 0 1 = cc in absurd (omega arith)
+      | inl t ↦ let z : _≡_ {A = ℕ} 0 1 = cc in absurd (omega arith)
       | inr f ↦ chain (cc)
     ]
 
@@ -120,11 +120,11 @@ whole-again bs (Err flaw) b e = tt
 whole-again bs (Ok k) b e =
     let Goal : Bool → Type 0 = λ v. Written-again bs (cond v (Err Cut) (Ok (fields-read k bs))) in
     elim (leb-tells (suc (length bs)) (size k)) [
-        inl h ↦ subst Goal (sym (h .0)) tt
+      | inl h ↦ subst Goal (sym (h .0)) tt
       | inr h ↦
-            let exact : record-bytes (fields-read k bs) ≡ take (size (kind-of (fields-read k bs))) bs =
-                bytes-again bs k b (kind-marked bs k e) (omega (arith, h .1)) ∙ ap (λ j. take (size j) bs) (sym (kind-again bs k)) in
-            subst Goal (sym (h .0)) (exact, fits-again bs k b, plain-again bs k)
+          let exact : record-bytes (fields-read k bs) ≡ take (size (kind-of (fields-read k bs))) bs =
+          bytes-again bs k b (kind-marked bs k e) (omega (arith, h .1)) ∙ ap (λ j. take (size j) bs) (sym (kind-again bs k)) in
+          subst Goal (sym (h .0)) (exact, fits-again bs k b, plain-again bs k)
     ]
 
 -- what was read is what would be written

@@ -4,7 +4,6 @@ mod write;
 
 pub use read::decode;
 pub use write::append;
-
 pub use write::mark;
 pub use write::size;
 

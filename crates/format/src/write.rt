@@ -100,7 +100,17 @@ pub fn append<const N: usize>(out: &mut Bounded<u8, N>, record: Record) -> Resul
         }
         Record::Task(t) => {
             let [c0, c1] = mark(Kind::Tasks);
-            out.extend_from_slice(&[c0, c1, t.mode, t.inputs, t.outputs, number_byte(t.parent), form_byte(t.form)])
+            out.extend_from_slice(
+                &[
+                    c0,
+                    c1,
+                    t.mode,
+                    t.inputs,
+                    t.outputs,
+                    number_byte(t.parent),
+                    form_byte(t.form),
+                ],
+            )
         }
         Record::Read(r) => {
             let [c0, c1] = mark(Kind::Reads);

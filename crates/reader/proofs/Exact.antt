@@ -43,7 +43,7 @@ stored :
 stored rest at s s′ (Err f) e = let z : _≡_ {A = ℕ} 0 1 = cc in absurd (omega arith)
 stored rest at s s′ (Ok r) e =
     elim (cases-bool (has-room s r)) [
-        inl t ↦ (r, refl, sym (ap (λ b. cond b (rest (past at r) (with-record s r)) (Err (TooMany (at .number)))) t) ∙ e)
+      | inl t ↦ (r, refl, sym (ap (λ b. cond b (rest (past at r) (with-record s r)) (Err (TooMany (at .number)))) t) ∙ e)
       | inr t ↦ let z : _≡_ {A = ℕ} 0 1 = cc in absurd (omega arith)
     ]
 
@@ -52,11 +52,11 @@ in-order : (at : Standing) (rr : Result Record Flaw) (r : Record) → ordered at
 in-order at (Err f) r e = let z : _≡_ {A = ℕ} 0 1 = cc in absurd (omega arith)
 in-order at (Ok x) r e =
     elim (leb-tells (suc (rank (kind-of x))) (rank (at .last))) [
-        inl h ↦ let t = h .0 in let z : _≡_ {A = ℕ} 0 1 = cc in absurd (omega arith)
+      | inl h ↦ let t = h .0 in let z : _≡_ {A = ℕ} 0 1 = cc in absurd (omega arith)
       | inr h ↦
-            let t = h .0 in
-            let same : x ≡ r = cc in
-            (ap Ok same, subst (λ y. rank (at .last) ≤ rank (kind-of y)) same (omega (arith, h .1)))
+          let t = h .0 in
+          let same : x ≡ r = cc in
+          (ap Ok same, subst (λ y. rank (at .last) ≤ rank (kind-of y)) same (omega (arith, h .1)))
     ]
 
 bytes-drop : (n : ℕ) (bs : List ℕ) → Bytes bs → Bytes (drop n bs)
@@ -84,29 +84,28 @@ pub walk-exact :
 walk-exact zero at s s′ e h b none plain = over-exact zero at s s′ e (omega arith) plain
 walk-exact (suc k) at s s′ e h b none plain =
     elim (cases-lt 0 (length (at .left))) [
-        inr past ↦ over-exact (suc k) at s s′ e (omega arith) plain
+      | inr past ↦ over-exact (suc k) at s s′ e (omega arith) plain
       | inl some ↦
-            let on = walk-on (suc k) k at s (next-record at) some refl (sym (add-one k)) in
-            let more = stored (walked k) at s s′ (next-record at) (sym on ∙ e) in
-            let r = more .0 in
-            let n = size (kind-of r) in
-            let ord = in-order at (record-read (at .left)) r (more .1) in
-            let read = subst (format.Written-again (at .left)) (ord .0) (written-again (at .left) b) in
-            let plain-with : All Plain-fields (rows (with-record s r)) =
-                subst (All Plain-fields) (sym (rows-with (at .last) s r none (ord .1))) (all-push Plain-fields (rows s) r plain (read .2)) in
-            let rest =
-                walk-exact k (past at r) (with-record s r) s′ (more .2)
-                    (omega (arith, h, length-drop n (at .left), size-some (kind-of r)))
-                    (bytes-drop n (at .left) b)
-                    (up-to-with (at .last) s r none (ord .1))
-                    plain-with in
-            (
-                rest .0
+          let on = walk-on (suc k) k at s (next-record at) some refl (sym (add-one k)) in
+          let more = stored (walked k) at s s′ (next-record at) (sym on ∙ e) in
+          let r = more .0 in
+          let n = size (kind-of r) in
+          let ord = in-order at (record-read (at .left)) r (more .1) in
+          let read = subst (format.Written-again (at .left)) (ord .0) (written-again (at .left) b) in
+          let plain-with : All Plain-fields (rows (with-record s r)) =
+          subst (All Plain-fields) (sym (rows-with (at .last) s r none (ord .1))) (all-push Plain-fields (rows s) r plain (read .2)) in
+          let rest =
+          walk-exact k (past at r) (with-record s r) s′ (more .2)
+          (omega (arith, h, length-drop n (at .left), size-some (kind-of r)))
+          (bytes-drop n (at .left) b)
+          (up-to-with (at .last) s r none (ord .1))
+          plain-with in (
+            rest .0
                 ∙ ap (λ l. l ++ drop n (at .left)) (bytes-with at s r none (ord .1))
                 ∙ append-assoc (station-bytes s) (record-bytes r) (drop n (at .left))
                 ∙ ap (λ l. station-bytes s ++ l) (ap (λ l. l ++ drop n (at .left)) (read .0) ∙ take-append-drop n (at .left)),
-                rest .1,
-            )
+            rest .1,
+          )
     ]
 
 -- the same of the whole

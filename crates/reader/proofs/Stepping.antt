@@ -37,14 +37,14 @@ pub step-some :
     (at : Standing) (r : Record) (rest : List ℕ) (k : Kind)
     → eqb (length (at .left)) 0 ≡ false → next-record at ≡ Ok r → k ≡ kind-of r → rest ≡ drop (size (kind-of r)) (at .left)
     → _≡_ {A = Result (Option Numbered) Fault × Standing}
-        (Ok (Some (record { number = at .number; «record» = r })), record { left = rest; number = at .number + 1; last = k })
-        (stepped at)
+    (Ok (Some (record { number = at .number; «record» = r })), record { left = rest; number = at .number + 1; last = k })
+    (stepped at)
 step-some at r rest k h e w d =
     let got : Result (Option Numbered) Fault = Ok (Some (record { number = at .number; «record» = r })) in
     let To : Type 0 = Result (Option Numbered) Fault × Standing in
     let one : _≡_ {A = To} (got, record { left = rest; number = at .number + 1; last = k }) (got, record { left = drop (size (kind-of r)) (at .left); number = at .number + 1; last = k }) =
-        ap (λ l. (got, record { left = l; number = at .number + 1; last = k })) d in
+    ap (λ l. (got, record { left = l; number = at .number + 1; last = k })) d in
     let two : _≡_ {A = To} (got, record { left = drop (size (kind-of r)) (at .left); number = at .number + 1; last = k }) (got, past at r) =
-        ap (λ j. (got, record { left = drop (size (kind-of r)) (at .left); number = at .number + 1; last = j })) w in
+    ap (λ j. (got, record { left = drop (size (kind-of r)) (at .left); number = at .number + 1; last = j })) w in
     let three : _≡_ {A = To} (got, past at r) (handed at (next-record at)) = sym (ap (handed at) e) in
     one ∙ two ∙ three ∙ sym (ap (λ b. cond b (Ok None, at) (handed at (next-record at))) h)

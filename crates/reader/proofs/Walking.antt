@@ -120,12 +120,12 @@ pub walk-full :
 walk-full bs at at′ s x f u h e =
     let on = walk-on (length bs - at .number) (length bs - at .number - 1) at s (Ok (x .«record»)) (h .0) (h .1) (omega (arith, u .0, h .0)) in
     elim (cases-bool (has-room s (x .«record»))) [
-        inl t ↦ let z : _≡_ {A = ℕ} 0 1 = cc in absurd (omega arith)
+      | inl t ↦ let z : _≡_ {A = ℕ} 0 1 = cc in absurd (omega arith)
       | inr t ↦
-            let same : f ≡ TooMany (x .number) = cc in
-            ap Err same
-            ∙ ap (λ n. Err (TooMany n)) (h .2)
-            ∙ sym (u .1 ∙ on ∙ ap (λ b. cond b (walked (length bs - at .number - 1) (past at (x .«record»)) (with-record s (x .«record»))) (Err (TooMany (at .number)))) t)
+          let same : f ≡ TooMany (x .number) = cc in
+          ap Err same
+          ∙ ap (λ n. Err (TooMany n)) (h .2)
+          ∙ sym (u .1 ∙ on ∙ ap (λ b. cond b (walked (length bs - at .number - 1) (past at (x .«record»)) (with-record s (x .«record»))) (Err (TooMany (at .number)))) t)
     ]
 
 -- a record that was stored
@@ -138,18 +138,17 @@ walk-stored bs at at′ s s′ x unit u h e w =
     let m = length bs - at .number - 1 in
     let on = walk-on (length bs - at .number) m at s (Ok r) (h .0) (h .1) (omega (arith, u .0, h .0)) in
     elim (cases-bool (has-room s r)) [
-        inr t ↦ let z : _≡_ {A = ℕ} 0 1 = cc in absurd (omega arith)
+      | inr t ↦ let z : _≡_ {A = ℕ} 0 1 = cc in absurd (omega arith)
       | inl t ↦
-            let kept : Underway bs (past at r) (with-record s r) =
-                (
-                    omega (arith, u .0, h .0, length-drop (size (kind-of r)) (at .left), size-some (kind-of r)),
-                    u .1
-                    ∙ on
-                    ∙ ap (λ b. cond b (walked m (past at r) (with-record s r)) (Err (TooMany (at .number)))) t
-                    ∙ ap (λ j. walked j (past at r) (with-record s r)) (omega arith),
-                ) in
-            let stored : s′ ≡ with-record s r = w ∙ ap (λ b. cond b (with-record s r) s) t in
-            subst (λ y. Underway bs at′ y) (sym stored) (subst (λ y. Underway bs y (with-record s r)) (sym (h .3)) kept)
+          let kept : Underway bs (past at r) (with-record s r) = (
+            omega (arith, u .0, h .0, length-drop (size (kind-of r)) (at .left), size-some (kind-of r)),
+            u .1
+                ∙ on
+                ∙ ap (λ b. cond b (walked m (past at r) (with-record s r)) (Err (TooMany (at .number)))) t
+                ∙ ap (λ j. walked j (past at r) (with-record s r)) (omega arith),
+          ) in
+          let stored : s′ ≡ with-record s r = w ∙ ap (λ b. cond b (with-record s r) s) t in
+          subst (λ y. Underway bs at′ y) (sym stored) (subst (λ y. Underway bs y (with-record s r)) (sym (h .3)) kept)
     ]
 
 -- the bytes left become fewer

@@ -44,12 +44,12 @@ pub split-law :
 split-law g f here later xs ys p q k =
     let count = length-map xs f in
     elim (leb-tells (suc k) (length xs)) [
-        inl h ↦
-            let low : k < length (map f xs) = omega (arith, h .1) in
-            nth-front (map f xs) ys k low ∙ nth-map f xs k ∙ p k ∙ sym (ap (λ b. g (cond b (here k) (later (k - length xs)))) (h .0))
+      | inl h ↦
+          let low : k < length (map f xs) = omega (arith, h .1) in
+          nth-front (map f xs) ys k low ∙ nth-map f xs k ∙ p k ∙ sym (ap (λ b. g (cond b (here k) (later (k - length xs)))) (h .0))
       | inr h ↦
-            let high : length (map f xs) ≤ k = omega (arith, h .1) in
-            nth-back (map f xs) ys k high ∙ ap (λ n. nth ys (k - n)) count ∙ q (k - length xs) ∙ sym (ap (λ b. g (cond b (here k) (later (k - length xs)))) (h .0))
+          let high : length (map f xs) ≤ k = omega (arith, h .1) in
+          nth-back (map f xs) ys k high ∙ ap (λ n. nth ys (k - n)) count ∙ q (k - length xs) ∙ sym (ap (λ b. g (cond b (here k) (later (k - length xs)))) (h .0))
     ]
 
 -- the record of a number is the one at its place

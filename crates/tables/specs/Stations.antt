@@ -1,5 +1,5 @@
 -- A station: the records of each kind, in order.
-use Prim.Native.Nat.{ℕ}
+use Prim.Native.Nat.{ℕ, _≤_}
 use lib.Dec.{ltb}
 use lib.ListN.{length}
 use mathlib.Core.Bool.{Bool, cond}
@@ -38,14 +38,14 @@ pub record Station : Type 0 where
 abbrev pub station : Tables → Station
 station t =
     record {
-        communicators = items (t .communicators);
-        modules = items (t .modules);
-        modes = items (t .modes);
-        tasks = items (t .tasks);
-        reads = items (t .reads);
-        writes = items (t .writes);
-        dependencies = items (t .dependencies);
-        switches = items (t .switches)
+      communicators = items (t .communicators);
+      modules = items (t .modules);
+      modes = items (t .modes);
+      tasks = items (t .tasks);
+      reads = items (t .reads);
+      writes = items (t .writes);
+      dependencies = items (t .dependencies);
+      switches = items (t .switches);
     }
 
 -- The station without any record.
@@ -89,6 +89,10 @@ has-room s r = ltb (count s (kind-of r)) (most (kind-of r))
 -- Whether a store takes the record of a number in, or refuses it as one too many.
 abbrev pub taken-in : Station → ℕ → Record → Result (Unit {0}) Fault
 taken-in s n r = cond (has-room s r) (Ok tt) (Err (TooMany n))
+
+-- No kind has more records than its most.
+abbrev pub Few : Station → Type 0
+Few s = (k : Kind) → count s k ≤ most k
 
 -- All records in their order: kind after kind.
 abbrev pub rows : Station → List Record

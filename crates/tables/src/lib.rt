@@ -20,9 +20,13 @@ pub use records::Write;
 
 // The most records of each kind.
 pub const MOST_COMMUNICATORS: usize = 32;
+
 pub const MOST_MODULES: usize = 32;
+
 pub const MOST_MODES: usize = 64;
+
 pub const MOST_TASKS: usize = 64;
+
 pub const MOST_LINES: usize = 128;
 
 // A station's records, a list for each kind.

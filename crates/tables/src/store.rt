@@ -6,7 +6,7 @@ ghost use mathlib.Core.Path.{_≡_};
 ghost use Rattle.std.specs.Finite.{nth};
 ghost use Rattle.tables.specs.Places.{place, record-at};
 ghost use Rattle.tables.specs.Kinds.{kind-of, rank, most};
-ghost use Rattle.tables.specs.Stations.{Station, station, empty, count, has-room, with-record, taken-in, rows};
+ghost use Rattle.tables.specs.Stations.{Station, station, empty, count, has-room, with-record, taken-in, Few, rows};
 use super::Tables;
 use super::records::*;
 use bounded::Bounded;
@@ -111,7 +111,8 @@ impl Tables {
 
     // How many records there are of all kinds.
     pub fn count(&self) -> usize
-        ensures { λ r. ⌜ r ≡ length (rows (station (now (self .entry)))) ⌝ }
+        ensures value { λ r. ⌜ r ≡ length (rows (station (now (self .entry)))) ⌝ }
+        ensures few { λ _. ⌜ Few (station (now (self .entry))) ⌝ }
     {
         self.communicators.len()
             + self.modules.len()

@@ -14,6 +14,6 @@ returns c =
     let fits : (i : ℕ) → Fits w8 (getD (c .args .bytes .now) i 0) = search needs in
     let small : (i : ℕ) → getD (c .args .bytes .now) i 0 < 256 = λ i. omega (arith, fits i .fits) in
     record {
-        value = c .record-of .ensures;
-        again = subst (Written-again (c .args .bytes .now)) (sym (c .record-of .ensures)) (written-again (c .args .bytes .now) small)
+      value = c .record-of .ensures;
+      again = subst (Written-again (c .args .bytes .now)) (sym (c .record-of .ensures)) (written-again (c .args .bytes .now) small);
     }

@@ -11,7 +11,7 @@ pub returns : need.returns
 returns c =
     let left = c .args .self .now .rest .now in
     step-some (standing (c .args .self .now)) (c .in-Continue-record .record) _ (c .kind-kind .result)
-        (sym (c .if-is-empty .ensures tt))
-        (sym (c .in-Continue-record .ensures tt .value))
-        (c .kind-kind .ensures)
-        (take-rest left (c .size .result) ∙ ap (λ n. drop n left) (c .size .ensures ∙ ap size (c .kind-kind .ensures)))
+    (sym (c .if-is-empty .ensures tt))
+    (sym (c .in-Continue-record .ensures tt .value))
+    (c .kind-kind .ensures)
+    (take-rest left (c .size .result) ∙ ap (λ n. drop n left) (c .size .ensures ∙ ap size (c .kind-kind .ensures)))

@@ -9,9 +9,9 @@ returns-else-rank c =
     let at = standing (c .args .self .now) in
     let read = c .in-Ok .ensures tt in
     record {
-        value =
-            in-order at (c .in-Ok .record) (c .rank .result) (c .rank-in-Ok .result)
-                (c .rank .ensures ∙ ap rank (c .kind .ensures)) (c .rank-in-Ok .ensures) (c .if-rank .left)
-            ∙ ap (ordered at) (read .value);
-        whole = all-there (c .in-Ok .record) (c .args .self .now .rest .now) (read .again .0)
+      value =
+          in-order at (c .in-Ok .record) (c .rank .result) (c .rank-in-Ok .result)
+          (c .rank .ensures ∙ ap rank (c .kind .ensures)) (c .rank-in-Ok .ensures) (c .if-rank .left)
+          ∙ ap (ordered at) (read .value);
+      whole = all-there (c .in-Ok .record) (c .args .self .now .rest .now) (read .again .0);
     }

@@ -10,6 +10,6 @@ pub returns : need.returns
 returns c =
     let small : (i : ℕ) → getD (c .args .bytes .now) i 0 < 256 = λ i. omega (arith, c .typed .bytes i .fits) in
     record {
-        value = c .filled .ensures;
-        again = records-exact (c .args .bytes .now) (outcome (c .filled .result)) small (sym (c .filled .ensures))
+      value = c .filled .ensures;
+      again = records-exact (c .args .bytes .now) (outcome (c .filled .result)) small (sym (c .filled .ensures));
     }
