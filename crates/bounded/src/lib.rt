@@ -4,6 +4,7 @@ ghost use Prim.Native.Nat.{_≤_};
 ghost use lib.ListN.{length};
 
 mod list;
+mod size;
 
 // There is no room for more.
 #[derive(Clone, Copy)]

@@ -1,6 +1,6 @@
 // What can be done with a bounded list, told by the list that it stands for.
-ghost use Prim.Native.Nat.{_≤_, _-_, _+_};
-ghost use lib.Dec.{ltb, leb, eqb};
+ghost use Prim.Native.Nat.{_-_, _+_};
+ghost use lib.Dec.{ltb, leb};
 ghost use lib.ListN.{length, take};
 ghost use mathlib.Core.Bool.{cond};
 ghost use mathlib.Core.List.{[], _∷_, _++_};
@@ -20,19 +20,6 @@ impl<T: Copy, const N: usize> Bounded<T, N> {
             slots: [blank; N],
             len: 0,
         }
-    }
-
-    pub fn len(&self) -> usize
-        ensures count { λ r. ⌜ r ≡ length (items (now (self .entry))) ⌝ }
-        ensures few { λ r. ⌜ r ≤ N ⌝ }
-    {
-        self.len
-    }
-
-    pub fn is_empty(&self) -> bool
-        ensures { λ r. ⌜ r ≡ eqb (length (items (now (self .entry)))) 0 ⌝ }
-    {
-        self.len == 0
     }
 
     // The items in order.
