@@ -1,5 +1,5 @@
 // What can be done with a bounded list, told by the list that it stands for.
-ghost use Prim.Native.Nat.{_-_, _+_};
+ghost use Prim.Native.Nat.{_-_, _+_, _≤_};
 ghost use lib.Dec.{ltb, leb};
 ghost use lib.ListN.{length, take};
 ghost use mathlib.Core.Bool.{cond};
@@ -24,7 +24,8 @@ impl<T: Copy, const N: usize> Bounded<T, N> {
 
     // The items in order.
     pub fn as_slice(&self) -> &[T]
-        ensures { λ r. ⌜ now r ≡ items (now (self .entry)) ⌝ }
+        ensures value { λ r. ⌜ now r ≡ items (now (self .entry)) ⌝ }
+        ensures few { λ r. ⌜ length (now r) ≤ N ⌝ }
     {
         let all: &[T] = &self.slots;
         &all[0..self.len]

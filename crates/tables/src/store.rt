@@ -1,4 +1,5 @@
 // What can be done with a table store, told by the station that it holds.
+ghost use Prim.Native.Nat.{_≤_};
 ghost use lib.Dec.{ltb};
 ghost use lib.ListN.{length};
 ghost use mathlib.Core.Bool.{cond};
@@ -184,49 +185,57 @@ impl Tables {
     }
 
     pub fn communicators(&self) -> &[Communicator]
-        ensures { λ r. ⌜ now r ≡ station (now (self .entry)) .communicators ⌝ }
+        ensures value { λ r. ⌜ now r ≡ station (now (self .entry)) .communicators ⌝ }
+        ensures few { λ r. ⌜ length (now r) ≤ 32 ⌝ }
     {
         self.communicators.as_slice()
     }
 
     pub fn modules(&self) -> &[Module]
-        ensures { λ r. ⌜ now r ≡ station (now (self .entry)) .modules ⌝ }
+        ensures value { λ r. ⌜ now r ≡ station (now (self .entry)) .modules ⌝ }
+        ensures few { λ r. ⌜ length (now r) ≤ 32 ⌝ }
     {
         self.modules.as_slice()
     }
 
     pub fn modes(&self) -> &[Mode]
-        ensures { λ r. ⌜ now r ≡ station (now (self .entry)) .modes ⌝ }
+        ensures value { λ r. ⌜ now r ≡ station (now (self .entry)) .modes ⌝ }
+        ensures few { λ r. ⌜ length (now r) ≤ 64 ⌝ }
     {
         self.modes.as_slice()
     }
 
     pub fn tasks(&self) -> &[Task]
-        ensures { λ r. ⌜ now r ≡ station (now (self .entry)) .tasks ⌝ }
+        ensures value { λ r. ⌜ now r ≡ station (now (self .entry)) .tasks ⌝ }
+        ensures few { λ r. ⌜ length (now r) ≤ 64 ⌝ }
     {
         self.tasks.as_slice()
     }
 
     pub fn reads(&self) -> &[Read]
-        ensures { λ r. ⌜ now r ≡ station (now (self .entry)) .reads ⌝ }
+        ensures value { λ r. ⌜ now r ≡ station (now (self .entry)) .reads ⌝ }
+        ensures few { λ r. ⌜ length (now r) ≤ 128 ⌝ }
     {
         self.reads.as_slice()
     }
 
     pub fn writes(&self) -> &[Write]
-        ensures { λ r. ⌜ now r ≡ station (now (self .entry)) .writes ⌝ }
+        ensures value { λ r. ⌜ now r ≡ station (now (self .entry)) .writes ⌝ }
+        ensures few { λ r. ⌜ length (now r) ≤ 128 ⌝ }
     {
         self.writes.as_slice()
     }
 
     pub fn dependencies(&self) -> &[Dependency]
-        ensures { λ r. ⌜ now r ≡ station (now (self .entry)) .dependencies ⌝ }
+        ensures value { λ r. ⌜ now r ≡ station (now (self .entry)) .dependencies ⌝ }
+        ensures few { λ r. ⌜ length (now r) ≤ 128 ⌝ }
     {
         self.dependencies.as_slice()
     }
 
     pub fn switches(&self) -> &[Switch]
-        ensures { λ r. ⌜ now r ≡ station (now (self .entry)) .switches ⌝ }
+        ensures value { λ r. ⌜ now r ≡ station (now (self .entry)) .switches ⌝ }
+        ensures few { λ r. ⌜ length (now r) ≤ 128 ⌝ }
     {
         self.switches.as_slice()
     }

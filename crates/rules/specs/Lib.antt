@@ -1,0 +1,6 @@
+pub mod Searches
+pub mod Lookups
+pub mod Windows
+pub mod Levels
+pub mod Rules
+pub mod Verdicts
