@@ -1,3 +1,4 @@
 pub mod Searching
 pub mod Filling
 pub mod Levelling
+pub mod Exactness

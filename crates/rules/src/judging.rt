@@ -2,7 +2,7 @@
 ghost use mathlib.Core.Path.{_≡_};
 ghost use Rattle.tables.specs.Stations.{station};
 ghost use Rattle.rules.specs.Rules.{opens-in-time, holds};
-ghost use Rattle.rules.specs.Verdicts.{checked, verdict};
+ghost use Rattle.rules.specs.Verdicts.{checked, verdict, Exactly};
 ghost use Rattle.rules.specs.Windows.{openings, ends};
 use crate::Windows;
 use crate::feeding::well_fed;
@@ -79,7 +79,8 @@ fn judge(tables: &Tables) -> Result<(), Fault>
 
 // Accepts exactly the tables that keep every rule at every record, and else names the first rule broken and its first record.
 pub fn check(tables: &Tables) -> Result<(), Fault>
-    ensures { λ r. ⌜ r ≡ verdict (station (now (tables .entry))) ⌝ }
+    ensures value { λ r. ⌜ r ≡ verdict (station (now (tables .entry))) ⌝ }
+    ensures exact { λ r. ⌜ Exactly (station (now (tables .entry))) r ⌝ }
 {
     judge(tables)
 }
