@@ -1,4 +1,9 @@
 pub mod Searching
+pub mod Sums
 pub mod Filling
 pub mod Levelling
 pub mod Exactness
+pub mod Places
+pub mod Reaching
+pub mod Meeting
+pub mod Keeping

@@ -4,3 +4,5 @@ pub mod Windows
 pub mod Levels
 pub mod Rules
 pub mod Verdicts
+pub mod Activity
+pub mod Promises

@@ -38,3 +38,8 @@ largest p f a (suc n) = cond (p n) (max (largest p f a n) (f n)) (largest p f a 
 unfoldable pub smallest : (ℕ → Bool) → (ℕ → ℕ) → ℕ → ℕ → ℕ
 smallest p f a zero = a
 smallest p f a (suc n) = cond (p n) (min (smallest p f a n) (f n)) (smallest p f a n)
+
+-- The sum of f at the numbers below n that pass a test.
+unfoldable pub total : (ℕ → Bool) → (ℕ → ℕ) → ℕ → ℕ
+total p f zero = 0
+total p f (suc n) = total p f n + cond (p n) (f n) 0
