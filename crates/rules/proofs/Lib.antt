@@ -6,4 +6,5 @@ pub mod Exactness
 pub mod Places
 pub mod Reaching
 pub mod Meeting
+pub mod Racing
 pub mod Keeping
