@@ -36,14 +36,14 @@ pub record Family (s : Station) : Type 0 where
       (t u c : ℕ) → t < u → u < length (s .tasks) → owner-of s t ≡ None → owner-of s u ≡ None → writes-to s t c ≡ true → writes-to s u c ≡ true
       → (mode-of s t ≡ mode-of s u → ⊥) × (module-of s t ≡ module-of s u)
 
-owner-cases : (o : Option ℕ) → (o ≡ None) ⊎ ((x : ℕ) × (o ≡ Some x))
+pub owner-cases : (o : Option ℕ) → (o ≡ None) ⊎ ((x : ℕ) × (o ≡ Some x))
 owner-cases None = inl refl
 owner-cases (Some x) = inr (x, refl)
 
-never : (o : Option ℕ) (x : ℕ) → o ≡ None → o ≡ Some x → ⊥
+pub never : (o : Option ℕ) (x : ℕ) → o ≡ None → o ≡ Some x → ⊥
 never o x e f = let z : _≡_ {A = ℕ} 0 1 = cc in omega arith
 
-same-number : (o : Option ℕ) (x y : ℕ) → o ≡ Some x → o ≡ Some y → x ≡ y
+pub same-number : (o : Option ℕ) (x y : ℕ) → o ≡ Some x → o ≡ Some y → x ≡ y
 same-number o x y e f = cc
 
 -- a task at or above another in the line of parents
