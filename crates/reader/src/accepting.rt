@@ -1,6 +1,7 @@
 // From bytes to tables that keep every rule.
 ghost use mathlib.Core.Path.{_≡_};
 ghost use Rattle.reader.specs.Accepting.{judged, verdict-on};
+ghost use Rattle.rules.specs.Promises.{Laws};
 ghost use Rattle.rules.specs.Verdicts.{Keeps};
 ghost use Rattle.tables.specs.Stations.{station};
 use crate::Accepted;
@@ -23,6 +24,7 @@ impl Accepted {
     pub fn tables(&self) -> &Tables
         ensures value { λ r. ⌜ now r ≡ now (self .entry) .tables ⌝ }
         ensures kept { λ r. ⌜ Keeps (station (now r)) ⌝ }
+        ensures laws { λ r. ⌜ Laws (station (now r)) ⌝ }
     {
         &self.tables
     }
