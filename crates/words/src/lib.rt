@@ -1,0 +1,8 @@
+// Records and refusals as lines of text.
+mod refusals;
+mod rows;
+
+pub use refusals::Refused;
+pub use refusals::RefusedDisplay;
+pub use rows::Row;
+pub use rows::RowDisplay;
