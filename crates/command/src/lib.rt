@@ -39,4 +39,21 @@ pub enum Misuse {
 }
 
 // What every command does.
-pub const HELP: &str = "commands, one a line:\n  record MARK FIELDS  append a record, its fields in decimal, - for no owner or no parent\n  bytes HEX           append the bytes of an even number of hexadecimal digits\n  file NAME           append the bytes of a file\n  clear               drop what was appended\n  records             walk what was appended, a line for each record\n  help                this list\n# begins a comment, and a line that begins with ## is shown as a heading\n";
+pub const HELP: &str = "\
+record CO PERIOD KIND INITIAL              append a communicator, KIND 0 plain, 1 sensor, 2 actuator\n\
+record MU OWNER START                      append a module, OWNER - at the top\n\
+record MO MODULE PERIOD                    append a mode\n\
+record TA MODE INPUTS OUTPUTS PARENT FORM  append a task, PARENT - for none, FORM 0 concrete, 1 abstract\n\
+record RD TASK INPUT COMMUNICATOR OFFSET   append a read\n\
+record WR TASK OUTPUT COMMUNICATOR OFFSET  append a write\n\
+record DP TASK OUTPUT TO INPUT             append a dependency\n\
+record SW MODE CONDITION TARGET            append a switch\n\
+bytes HEX                                  append bytes, two hexadecimal digits each\n\
+file NAME                                  append the bytes of a file\n\
+clear                                      drop all that was appended\n\
+records                                    walk what was appended, a line for each record\n\
+help                                       this list\n\
+# begins a comment, and a line that begins with ## is printed as a heading\n";
+
+#[cfg(test)]
+mod tests;

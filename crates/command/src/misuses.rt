@@ -8,12 +8,13 @@ fn fields_form(kind: Kind) -> &'static str {
         Kind::Communicators => {
             "record CO PERIOD KIND INITIAL (0 to 65535, 0 to 255, -2147483648 to 2147483647)"
         }
-        Kind::Modules => "record MU OWNER START (0 to 254 or - for none, 0 to 255)",
+        Kind::Modules => "record MU OWNER START (each 0 to 255, OWNER 255 or - for none)",
         Kind::Modes => "record MO MODULE PERIOD (0 to 255, 0 to 65535)",
         Kind::Tasks => {
-            "record TA MODE INPUTS OUTPUTS PARENT FORM (each 0 to 255, PARENT - for none)"
+            "record TA MODE INPUTS OUTPUTS PARENT FORM (each 0 to 255, PARENT 255 or - for none)"
         }
-        Kind::Reads => "record RD TASK INPUT COMMUNICATOR OFFSET (each 0 to 255, OFFSET 0 to 65535)",
+        Kind::Reads =>
+            "record RD TASK INPUT COMMUNICATOR OFFSET (each 0 to 255, OFFSET 0 to 65535)",
         Kind::Writes => {
             "record WR TASK OUTPUT COMMUNICATOR OFFSET (each 0 to 255, OFFSET 0 to 65535)"
         }
@@ -28,7 +29,7 @@ fn form(misuse: Misuse) -> &'static str {
         Misuse::Mark => "record MARK FIELDS with one of the marks CO MU MO TA RD WR DP SW",
         Misuse::Fields(kind) => fields_form(kind),
         Misuse::Hex => "bytes HEX with an even number of hexadecimal digits",
-        Misuse::Name => "file NAME with one name without blanks",
+        Misuse::Name => "file NAME with one name that has no blanks",
         Misuse::Clear => "clear and nothing after it",
         Misuse::Records => "records and nothing after it",
         Misuse::Help => "help and nothing after it",

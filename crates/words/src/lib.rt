@@ -6,3 +6,6 @@ pub use refusals::Refused;
 pub use refusals::RefusedDisplay;
 pub use rows::Row;
 pub use rows::RowDisplay;
+
+#[cfg(test)]
+mod tests;

@@ -63,7 +63,10 @@ fn site(fault: Fault) -> (&'static str, &'static str) {
         Fault::Unloadable { place: _ } => (" at place ", ""),
         Fault::ShortBuffer { needed: _ } => (", ", " bytes are needed"),
         Fault::Overdue { task: _ } => (" task ", ""),
-        Fault::Trap { cause: _, address: _ } => (" at address ", ""),
+        Fault::Trap {
+            cause: _,
+            address: _,
+        } => (" at address ", ""),
         _ => (" at record ", ""),
     }
 }

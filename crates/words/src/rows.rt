@@ -86,7 +86,10 @@ fn task<W: fmt::Write>(t: Task, f: &mut fmt::Formatter<W>) -> fmt::Result {
     let outputs = t.outputs;
     let parent = Parent(t.parent);
     let shape = Shape(t.form);
-    write!(f, "in mode {mode}, {inputs} inputs, {outputs} outputs, {parent}, {shape}")
+    write!(
+        f,
+        "in mode {mode}, {inputs} inputs, {outputs} outputs, {parent}, {shape}"
+    )
 }
 
 fn read<W: fmt::Write>(r: Read, f: &mut fmt::Formatter<W>) -> fmt::Result {
@@ -94,7 +97,10 @@ fn read<W: fmt::Write>(r: Read, f: &mut fmt::Formatter<W>) -> fmt::Result {
     let input = r.input;
     let from = r.communicator;
     let offset = r.offset;
-    write!(f, "task {task} input {input} from communicator {from} at offset {offset}")
+    write!(
+        f,
+        "task {task} input {input} from communicator {from} at offset {offset}"
+    )
 }
 
 fn write<W: fmt::Write>(w: Write, f: &mut fmt::Formatter<W>) -> fmt::Result {
@@ -102,7 +108,10 @@ fn write<W: fmt::Write>(w: Write, f: &mut fmt::Formatter<W>) -> fmt::Result {
     let output = w.output;
     let to = w.communicator;
     let offset = w.offset;
-    write!(f, "task {task} output {output} to communicator {to} at offset {offset}")
+    write!(
+        f,
+        "task {task} output {output} to communicator {to} at offset {offset}"
+    )
 }
 
 fn dependency<W: fmt::Write>(d: Dependency, f: &mut fmt::Formatter<W>) -> fmt::Result {
