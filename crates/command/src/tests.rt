@@ -1,184 +1,125 @@
-// Each command, each malformed form, and the edges of each width.
+// Each command, each malformed form, and the edges of each width, as lines with what they give.
 use crate::*;
 use bounded::Bounded;
 use format::append;
+use std::alloc::AllocError;
 use std::alloc::Global;
 use std::test::*;
 
-// The bytes that a line has appended.
-fn gives(heap: Global, line: &str, bytes: &[u8]) -> Result<(), Fail> {
+fn spelt(heap: Global, bytes: &[u8]) -> Result<String, AllocError> {
+    let mut text = String::new(heap);
+    for byte in bytes {
+        let digits = format!(heap, "{byte:02x}")?;
+        text.push_str(digits.as_str())?;
+    }
+    Ok(text)
+}
+
+// What a line gives, in words.
+fn answer(heap: Global, line: &str) -> Result<String, AllocError> {
     match parse(heap, line) {
         Ok(Command::Record(record)) => {
             let mut out = Bounded::<u8, 9>::new(0);
             let _ = append(&mut out, record);
-            check_eq(out.as_slice(), bytes)
+            spelt(heap, out.as_slice())
         }
-        Ok(Command::Bytes(more)) => check_eq(more.as_slice(), bytes),
-        _ => Err(Fail::new(line)),
+        Ok(Command::Bytes(more)) => spelt(heap, more.as_slice()),
+        Ok(Command::File(name)) => format!(heap, "file {name}"),
+        Ok(Command::Clear) => String::from_str(heap, "clear"),
+        Ok(Command::Records) => String::from_str(heap, "records"),
+        Ok(Command::Help) => String::from_str(heap, "help"),
+        Ok(Command::Heading(text)) => format!(heap, "heading {text}"),
+        Ok(Command::Nothing) => String::from_str(heap, "nothing"),
+        Err(misuse) => misuse.to_string(heap),
     }
 }
 
-// The line that says what was expected.
-fn wants(heap: Global, line: &str, form: &str) -> Result<(), Fail> {
-    match parse(heap, line) {
-        Ok(_) => Err(Fail::new(line)),
-        Err(misuse) => {
-            let shown = misuse.to_string(heap)?;
-            check_eq(shown.as_str(), form)
-        }
+fn holds(heap: Global, cases: &str) -> Result<(), Fail> {
+    for case in cases.lines() {
+        let Some((line, given)) = case.split_once(" => ") else {
+            return Err(Fail::new(case));
+        };
+        let text = answer(heap, line)?;
+        check_eq(text.as_str(), given)?;
     }
+    Ok(())
 }
 
 #[test]
-fn records_of_each_kind(rt: LibcRuntime) -> Result<(), Fail> {
-    let heap = rt.alloc();
-    gives(heap, "record CO 2 2 5", b"CO\x00\x02\x02\x00\x00\x00\x05")?;
-    gives(heap, "record MU 1 2", b"MU\x01\x02")?;
-    gives(heap, "record MO 1 515", b"MO\x01\x02\x03")?;
-    gives(heap, "record TA 1 2 3 4 1", b"TA\x01\x02\x03\x04\x01")?;
-    gives(heap, "record RD 1 2 3 1029", b"RD\x01\x02\x03\x04\x05")?;
-    gives(heap, "record WR 1 2 3 1029", b"WR\x01\x02\x03\x04\x05")?;
-    gives(heap, "record DP 1 2 3 4", b"DP\x01\x02\x03\x04")?;
-    gives(heap, "record SW 1 2 3", b"SW\x01\x02\x03")
+fn taken(rt: LibcRuntime) -> Result<(), Fail> {
+    holds(rt.alloc(), TAKEN)
 }
 
 #[test]
-fn records_at_the_edges(rt: LibcRuntime) -> Result<(), Fail> {
-    let heap = rt.alloc();
-    gives(
-        heap,
-        "record CO 65535 255 2147483647",
-        b"CO\xff\xff\xff\x7f\xff\xff\xff",
-    )?;
-    gives(
-        heap,
-        "record CO 0 0 -2147483648",
-        b"CO\x00\x00\x00\x80\x00\x00\x00",
-    )?;
-    gives(heap, "record MU - 255", b"MU\xff\xff")?;
-    gives(heap, "record MU 255 0", b"MU\xff\x00")?;
-    gives(heap, "record MU 254 0", b"MU\xfe\x00")?;
-    gives(heap, "record TA 0 0 0 - 9", b"TA\x00\x00\x00\xff\x09")?;
-    gives(heap, "record TA 0 0 0 255 0", b"TA\x00\x00\x00\xff\x00")
+fn refused(rt: LibcRuntime) -> Result<(), Fail> {
+    holds(rt.alloc(), REFUSED)
 }
 
-const CO: &str =
-    "expected: record CO PERIOD KIND INITIAL (0 to 65535, 0 to 255, -2147483648 to 2147483647)";
+const TAKEN: &str = "\
+record CO 2 2 5 => 434f00020200000005\n\
+record MU 1 2 => 4d550102\n\
+record MO 1 515 => 4d4f010203\n\
+record TA 1 2 3 4 1 => 54410102030401\n\
+record RD 1 2 3 1029 => 52440102030405\n\
+record WR 1 2 3 1029 => 57520102030405\n\
+record DP 1 2 3 4 => 445001020304\n\
+record SW 1 2 3 => 5357010203\n\
+record CO 65535 255 2147483647 => 434fffffff7fffffff\n\
+record CO 0 0 -2147483648 => 434f00000080000000\n\
+record MU - 255 => 4d55ffff\n\
+record MU 255 0 => 4d55ff00\n\
+record MU 254 0 => 4d55fe00\n\
+record TA 0 0 0 - 9 => 5441000000ff09\n\
+record TA 0 0 0 255 0 => 5441000000ff00\n\
+bytes 09afAF => 09afaf\n\
+\x20 bytes 00 # one => 00\n\
+clear => clear\n\
+\trecords  => records\n\
+help#me => help\n\
+file a.bin => file a.bin\n\
+\x20=> nothing\n\
+\x20 # clear => nothing\n\
+##  two words  => heading two words\n\
+";
 
-const MARK: &str = "expected: record MARK FIELDS with one of the marks CO MU MO TA RD WR DP SW";
-
-const MU: &str = "expected: record MU OWNER START (each 0 to 255, OWNER 255 or - for none)";
-
-#[test]
-fn records_out_of_their_width(rt: LibcRuntime) -> Result<(), Fail> {
-    let heap = rt.alloc();
-    wants(heap, "record CO 65536 0 0", CO)?;
-    wants(heap, "record CO 0 256 0", CO)?;
-    wants(heap, "record CO 0 0 2147483648", CO)?;
-    wants(heap, "record CO 0 0 -2147483649", CO)?;
-    wants(heap, "record CO - 0 0", CO)?;
-    wants(heap, "record CO 2 0x1 0", CO)?;
-    wants(heap, "record MU 256 0", MU)?;
-    wants(heap, "record MU 0 -", MU)?;
-    wants(heap, "record MU -1 0", MU)
-}
-
-#[test]
-fn records_of_other_fields(rt: LibcRuntime) -> Result<(), Fail> {
-    let heap = rt.alloc();
-    wants(heap, "record", MARK)?;
-    wants(heap, "record XX 1", MARK)?;
-    wants(heap, "record co 2 2 5", MARK)?;
-    wants(heap, "record C 2 2 5", MARK)?;
-    wants(heap, "record COO 2 2 5", MARK)?;
-    wants(heap, "record CO", CO)?;
-    wants(heap, "record CO 2 2", CO)?;
-    wants(heap, "record CO 2 2 5 5", CO)
-}
-
-#[test]
-fn forms_of_each_kind(rt: LibcRuntime) -> Result<(), Fail> {
-    let heap = rt.alloc();
-    wants(heap, "record MU", MU)?;
-    wants(
-        heap,
-        "record MO 1 65536",
-        "expected: record MO MODULE PERIOD (0 to 255, 0 to 65535)",
-    )?;
-    wants(
-        heap,
-        "record TA 0 0 0 0",
-        "expected: record TA MODE INPUTS OUTPUTS PARENT FORM (each 0 to 255, PARENT 255 or - for none)",
-    )?;
-    wants(
-        heap,
-        "record RD 0 0 0 65536",
-        "expected: record RD TASK INPUT COMMUNICATOR OFFSET (each 0 to 255, OFFSET 0 to 65535)",
-    )?;
-    wants(
-        heap,
-        "record WR 0 0 256 0",
-        "expected: record WR TASK OUTPUT COMMUNICATOR OFFSET (each 0 to 255, OFFSET 0 to 65535)",
-    )?;
-    wants(
-        heap,
-        "record DP 0 0 -",
-        "expected: record DP TASK OUTPUT TO INPUT (each 0 to 255)",
-    )?;
-    wants(
-        heap,
-        "record SW 0 0",
-        "expected: record SW MODE CONDITION TARGET (each 0 to 255)",
-    )
-}
-
-#[test]
-fn bytes_in_hexadecimal(rt: LibcRuntime) -> Result<(), Fail> {
-    let heap = rt.alloc();
-    let form = "expected: bytes HEX with an even number of hexadecimal digits";
-    gives(heap, "bytes 09afAF", b"\x09\xaf\xaf")?;
-    gives(heap, " bytes 00 # one", b"\x00")?;
-    wants(heap, "bytes", form)?;
-    wants(heap, "bytes 0", form)?;
-    wants(heap, "bytes 00 00", form)?;
-    wants(heap, "bytes 0g", form)?;
-    wants(heap, "bytes G0", form)?;
-    wants(heap, "bytes /0", form)?;
-    wants(heap, "bytes :@`0", form)
-}
-
-#[test]
-fn other_commands(rt: LibcRuntime) -> Result<(), Fail> {
-    let heap = rt.alloc();
-    check(matches!(parse(heap, "clear"), Ok(Command::Clear)))?;
-    check(matches!(parse(heap, "\trecords "), Ok(Command::Records)))?;
-    check(matches!(parse(heap, "help#me"), Ok(Command::Help)))?;
-    check(matches!(parse(heap, "file a.bin"), Ok(Command::File("a.bin"))))?;
-    check(matches!(parse(heap, ""), Ok(Command::Nothing)))?;
-    check(matches!(parse(heap, "  # clear"), Ok(Command::Nothing)))?;
-    check(matches!(
-        parse(heap, "##  two words "),
-        Ok(Command::Heading("two words"))
-    ))
-}
-
-#[test]
-fn other_misuses(rt: LibcRuntime) -> Result<(), Fail> {
-    let heap = rt.alloc();
-    let commands = "expected: record, bytes, file, clear, records or help";
-    wants(heap, "clearly", commands)?;
-    wants(heap, "Clear", commands)?;
-    wants(heap, "clear all", "expected: clear and nothing after it")?;
-    wants(heap, "records 1", "expected: records and nothing after it")?;
-    wants(heap, "help me", "expected: help and nothing after it")?;
-    wants(
-        heap,
-        "file",
-        "expected: file NAME with one name that has no blanks",
-    )?;
-    wants(
-        heap,
-        "file a b",
-        "expected: file NAME with one name that has no blanks",
-    )
-}
+const REFUSED: &str = "\
+record CO 65536 0 0 => expected: record CO PERIOD KIND INITIAL (0 to 65535, 0 to 255, -2147483648 to 2147483647)\n\
+record CO 0 256 0 => expected: record CO PERIOD KIND INITIAL (0 to 65535, 0 to 255, -2147483648 to 2147483647)\n\
+record CO 0 0 2147483648 => expected: record CO PERIOD KIND INITIAL (0 to 65535, 0 to 255, -2147483648 to 2147483647)\n\
+record CO 0 0 -2147483649 => expected: record CO PERIOD KIND INITIAL (0 to 65535, 0 to 255, -2147483648 to 2147483647)\n\
+record CO - 0 0 => expected: record CO PERIOD KIND INITIAL (0 to 65535, 0 to 255, -2147483648 to 2147483647)\n\
+record CO 2 0x1 0 => expected: record CO PERIOD KIND INITIAL (0 to 65535, 0 to 255, -2147483648 to 2147483647)\n\
+record MU 256 0 => expected: record MU OWNER START (each 0 to 255, OWNER 255 or - for none)\n\
+record MU 0 - => expected: record MU OWNER START (each 0 to 255, OWNER 255 or - for none)\n\
+record MU -1 0 => expected: record MU OWNER START (each 0 to 255, OWNER 255 or - for none)\n\
+record MO 1 65536 => expected: record MO MODULE PERIOD (0 to 255, 0 to 65535)\n\
+record TA 0 0 0 0 => expected: record TA MODE INPUTS OUTPUTS PARENT FORM (each 0 to 255, PARENT 255 or - for none)\n\
+record RD 0 0 0 65536 => expected: record RD TASK INPUT COMMUNICATOR OFFSET (each 0 to 255, OFFSET 0 to 65535)\n\
+record WR 0 0 256 0 => expected: record WR TASK OUTPUT COMMUNICATOR OFFSET (each 0 to 255, OFFSET 0 to 65535)\n\
+record DP 0 0 - => expected: record DP TASK OUTPUT TO INPUT (each 0 to 255)\n\
+record SW 0 0 => expected: record SW MODE CONDITION TARGET (each 0 to 255)\n\
+record => expected: record MARK FIELDS with one of the marks CO MU MO TA RD WR DP SW\n\
+record XX 1 => expected: record MARK FIELDS with one of the marks CO MU MO TA RD WR DP SW\n\
+record co 2 2 5 => expected: record MARK FIELDS with one of the marks CO MU MO TA RD WR DP SW\n\
+record C 2 2 5 => expected: record MARK FIELDS with one of the marks CO MU MO TA RD WR DP SW\n\
+record COO 2 2 5 => expected: record MARK FIELDS with one of the marks CO MU MO TA RD WR DP SW\n\
+record CO => expected: record CO PERIOD KIND INITIAL (0 to 65535, 0 to 255, -2147483648 to 2147483647)\n\
+record CO 2 2 => expected: record CO PERIOD KIND INITIAL (0 to 65535, 0 to 255, -2147483648 to 2147483647)\n\
+record CO 2 2 5 5 => expected: record CO PERIOD KIND INITIAL (0 to 65535, 0 to 255, -2147483648 to 2147483647)\n\
+bytes => expected: bytes HEX with an even number of hexadecimal digits\n\
+bytes 0 => expected: bytes HEX with an even number of hexadecimal digits\n\
+bytes 00 00 => expected: bytes HEX with an even number of hexadecimal digits\n\
+bytes 0g => expected: bytes HEX with an even number of hexadecimal digits\n\
+bytes G0 => expected: bytes HEX with an even number of hexadecimal digits\n\
+bytes /0 => expected: bytes HEX with an even number of hexadecimal digits\n\
+bytes 0: => expected: bytes HEX with an even number of hexadecimal digits\n\
+bytes @0 => expected: bytes HEX with an even number of hexadecimal digits\n\
+bytes 0` => expected: bytes HEX with an even number of hexadecimal digits\n\
+clearly => expected: record, bytes, file, clear, records or help\n\
+Clear => expected: record, bytes, file, clear, records or help\n\
+clear all => expected: clear and nothing after it\n\
+records 1 => expected: records and nothing after it\n\
+help me => expected: help and nothing after it\n\
+file => expected: file NAME with one name that has no blanks\n\
+file a b => expected: file NAME with one name that has no blanks\n\
+";
