@@ -1,12 +1,8 @@
 // A record by its fields as words.
-ghost use mathlib.Core.Bool.{_&&_};
 ghost use mathlib.Core.Path.{_≡_};
-ghost use lib.Dec.{eqb};
-ghost use lib.ListN.{length};
-ghost use Rattle.format.specs.Records.{marked};
 ghost use Rattle.format.specs.Sound.{Plain-fields};
 ghost use Rattle.std.specs.Slices.{found};
-ghost use Rattle.command.specs.Marks.{kind-named};
+ghost use Rattle.command.specs.Marks.{is-mark, kind-named};
 use format::form_of;
 use format::mark;
 use format::number;
@@ -16,7 +12,7 @@ use tables::*;
 
 // Whether a word is the mark of a kind.
 fn is_mark(word: &[u8], kind: Kind) -> bool
-    ensures { λ r. ⌜ r ≡ eqb (length (now (word .entry))) 2 && marked (now (word .entry)) kind ⌝ }
+    ensures { λ r. ⌜ r ≡ is-mark (now (word .entry)) kind ⌝ }
 {
     let letters = mark(kind);
     word.len() == 2 && word[0] == letters[0] && word[1] == letters[1]

@@ -1,5 +1,4 @@
 // The console's commands, one a line.
-use std::alloc::Global;
 use tables::Kind;
 use tables::Record;
 

@@ -1,5 +1,4 @@
 // What a user has gathered, and what each command does with it.
-ghost use mathlib.Core.Path.{_≡_};
 use bounded::Bounded;
 use command::Command;
 use command::HELP;
