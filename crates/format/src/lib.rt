@@ -3,6 +3,9 @@ mod read;
 mod write;
 
 pub use read::decode;
+pub use read::form_of;
+pub use read::number;
+pub use read::use_of;
 pub use write::append;
 pub use write::mark;
 pub use write::size;

@@ -25,13 +25,15 @@ fn word(bytes: &[u8], at: usize) -> i32
     i32::from_be_bytes([bytes[at], bytes[at + 1], bytes[at + 2], bytes[at + 3]])
 }
 
-fn number(byte: u8) -> Option<u8>
+// The owner or parent that a byte stands for; 255 is none.
+pub fn number(byte: u8) -> Option<u8>
     ensures { λ r. ⌜ r ≡ number-or-none byte ⌝ }
 {
     if byte == 255 { None } else { Some(byte) }
 }
 
-fn use_of(byte: u8) -> Use
+// What a communicator is for, by its byte.
+pub fn use_of(byte: u8) -> Use
     ensures { λ r. ⌜ r ≡ use-of byte ⌝ }
 {
     match byte {
@@ -42,7 +44,8 @@ fn use_of(byte: u8) -> Use
     }
 }
 
-fn form_of(byte: u8) -> Form
+// A task's form, by its byte.
+pub fn form_of(byte: u8) -> Form
     ensures { λ r. ⌜ r ≡ form-of byte ⌝ }
 {
     match byte {

@@ -1,0 +1,11 @@
+// Records and refusals as lines of text.
+mod refusals;
+mod rows;
+
+pub use refusals::Refused;
+pub use refusals::RefusedDisplay;
+pub use rows::Row;
+pub use rows::RowDisplay;
+
+#[cfg(test)]
+mod tests;
