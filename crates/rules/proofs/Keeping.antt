@@ -11,13 +11,15 @@ use Rattle.std.proofs.shelf.Tests.{ltb-true, eqb-true, eq-eqb, and-parts, and-f
 use Rattle.std.proofs.shelf.Ways.{tells}
 use Rattle.std.specs.declared.option.Option.{Option}
 use Rattle.std.specs.declared.option.Option.the-variants.{Some, None}
-use Rattle.tables.specs.Stations.{Station}
+use Rattle.tables.specs.Stations.{Station, Few}
+use Rattle.tables.specs.declared.records.Kind.the-variants.{Tasks}
 use Rattle.tables.specs.declared.records.Place.the-variants.{Communicator, Module, Mode, Task, Read, Write, Dependency, Switch}
 use Rattle.rules.proofs.Meeting.{reached-once}
 use Rattle.rules.proofs.Places.{kept-at}
 use Rattle.rules.proofs.Racing.{Family, races-none, owner-cases, never, same-number}
 use Rattle.rules.proofs.Reaching.{Named, met-reaches}
 use Rattle.rules.proofs.Searching.{any-at, any-some, every-all}
+use Rattle.rules.proofs.Windowing.{Ascend, opening-is, end-is}
 use Rattle.rules.specs.Levels.{meets}
 use Rattle.rules.specs.Lookups.{module-at, mode-at, task-at, write-at, dependency-at, is-number, is-none, is-abstract, mode-of, module-of, owner-of}
 use Rattle.rules.specs.Promises.{Laws}
@@ -208,8 +210,26 @@ module _ (s : Station) (k : Keeps s) where
         tops = tops-apart;
       }
 
-  pub laws : Laws s
-  laws =
+  dependency-ascends :
+      (j : ℕ) → j < length (s .dependencies)
+      → (mode-of s (dependency-at s j .task) ≡ mode-of s (dependency-at s j .to)) × (dependency-at s j .task < dependency-at s j .to)
+  dependency-ascends j h =
+      let q = and-parts (eqb (mode-of s (dependency-at s j .task)) (mode-of s (dependency-at s j .to))) (ltb (dependency-at s j .task) (dependency-at s j .to)) (kept-at s k Feeding (Dependency j) h) in
+      (eqb-true _ _ (q .0), ltb-true _ _ (q .1))
+
+  ascend : Ascend s
+  ascend j h =
+      let x = dependency-at s j in
+      let tasks = length (s .tasks) in
+      let a = ltb (x .task) tasks in
+      let b = ltb (x .output) (task-at s (x .task) .outputs) in
+      let c = ltb (x .to) tasks in
+      let q = and-parts (a && b && c) (ltb (x .input) (task-at s (x .to) .inputs)) (kept-at s k Fields (Dependency j) h) in
+      let r = and-parts (a && b) c (q .0) in
+      (dependency-ascends j h .1, ltb-true (x .to) tasks (r .1))
+
+  pub laws : Few s → Laws s
+  laws few =
       record {
         start-inside = λ i h. ordered i h .0;
         owner-smaller = λ i o h e. (named .owner-there i o h e, owner-lower i o h e);
@@ -220,10 +240,9 @@ module _ (s : Station) (k : Keeps s) where
             eqb-true (mode-at s d .period) (mode-at s o .period)
             (sym (ap (period-of-owner s (mode-at s d .period)) e) ∙ kept-at s k Timing (Mode d) h);
         opening-below-end = λ t h. ltb-true (opening s t) (end s t) (kept-at s k Window (Task t) h);
-        dependencies-ascend =
-            λ j h.
-            let q = and-parts (eqb (mode-of s (dependency-at s j .task)) (mode-of s (dependency-at s j .to))) (ltb (dependency-at s j .task) (dependency-at s j .to)) (kept-at s k Feeding (Dependency j) h) in
-            (eqb-true _ _ (q .0), ltb-true _ _ (q .1));
+        dependencies-ascend = dependency-ascends;
+        opening-is = opening-is s ascend (few Tasks);
+        end-is = end-is s ascend (few Tasks);
         siblings-apart = siblings-apart;
         race-free = races-none s family;
       }

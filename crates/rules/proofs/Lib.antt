@@ -7,4 +7,5 @@ pub mod Places
 pub mod Reaching
 pub mod Meeting
 pub mod Racing
+pub mod Windowing
 pub mod Keeping

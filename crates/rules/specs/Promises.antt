@@ -1,5 +1,6 @@
 -- What tables that keep every rule promise to whoever reads them.
 use Prim.Native.Nat.{ℕ, _<_, _≤_}
+use lib.Dec.{eqb}
 use lib.ListN.{length}
 use mathlib.Core.Bool.{true, false}
 use mathlib.Core.Path.{_≡_}
@@ -9,7 +10,8 @@ use Rattle.tables.specs.Stations.{Station}
 use Rattle.rules.specs.Activity.{Race-free}
 use Rattle.rules.specs.Levels.{Level, meetings}
 use Rattle.rules.specs.Lookups.{module-at, mode-at, task-at, dependency-at, mode-of, module-of}
-use Rattle.rules.specs.Windows.{opening, end}
+use Rattle.rules.specs.Searches.{largest, smallest}
+use Rattle.rules.specs.Windows.{release-offset, write-offset, opening, end}
 
 pub record Laws (s : Station) : Type 0 where
   -- A module's start mode lies in it.
@@ -22,6 +24,14 @@ pub record Laws (s : Station) : Type 0 where
   pub met-once : (i : ℕ) → i < length (s .modules) → meetings s i 8 None ≡ 1
   -- A mode of an owned module has the period of the owner.
   pub owner-period : (d o : ℕ) → d < length (s .modes) → module-at s (mode-at s d .home) .owner ≡ Some o → mode-at s d .period ≡ mode-at s o .period
+  -- A task's opening is the largest of its release offset and the openings of the tasks that it depends on.
+  pub opening-is :
+      (t : ℕ) → t < length (s .tasks)
+      → opening s t ≡ largest (λ j. eqb (dependency-at s j .to) t) (λ j. opening s (dependency-at s j .task)) (release-offset s t) (length (s .dependencies))
+  -- A task's end is the smallest of its write offsets, its mode's period, and the ends of the tasks that depend on it.
+  pub end-is :
+      (t : ℕ) → t < length (s .tasks)
+      → end s t ≡ smallest (λ j. eqb (dependency-at s j .task) t) (λ j. end s (dependency-at s j .to)) (write-offset s t) (length (s .dependencies))
   -- A task opens before it ends.
   pub opening-below-end : (t : ℕ) → t < length (s .tasks) → opening s t < end s t
   -- A dependency joins tasks of one mode, smaller number first.
