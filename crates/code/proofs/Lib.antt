@@ -1,0 +1,3 @@
+pub mod Ranges
+pub mod Unmet
+pub mod Storing
