@@ -94,10 +94,12 @@ sound-unbroken n xs whole e =
     let some : 0 < n = ltb-true 0 n (s .0) in
     let w : length xs ≡ n = whole (leb-true n 4096 (s .1)) in
     let count : length (map word-of xs) ≡ n = length-map xs word-of ∙ w in
-    let low : n - 1 < length xs = omega arith in
-    (some, leb-true n 4096 (s .1),
-    (λ k h. let near : k < length xs = omega arith in let inside : k < length (map word-of xs) = omega arith in within n (getD xs k Return) (ap (legal n) (sym (getD-map word-of xs k Return (word-of Return) near)) ∙ unmet-passed (legal n) 0 (map word-of xs) (word-of Return) (p .1) k inside)),
-    last (getD xs (n - 1) Return) (ap (λ v. is-end (v .opcode)) (sym (getD-map word-of xs (n - 1) Return (word-of Return) low)) ∙ q .1))
+    let low : n - 1 < length xs = omega arith in (
+      some,
+      leb-true n 4096 (s .1),
+      (λ k h. let near : k < length xs = omega arith in let inside : k < length (map word-of xs) = omega arith in within n (getD xs k Return) (ap (legal n) (sym (getD-map word-of xs k Return (word-of Return) near)) ∙ unmet-passed (legal n) 0 (map word-of xs) (word-of Return) (p .1) k inside)),
+      last (getD xs (n - 1) Return) (ap (λ v. is-end (v .opcode)) (sym (getD-map word-of xs (n - 1) Return (word-of Return) low)) ∙ q .1),
+    )
 
 -- a sound code is not refused
 pub unbroken-sound : (n : ℕ) (xs : List Instruction) → length xs ≡ n → Sound n xs → broken n (map word-of xs) ≡ None
@@ -122,9 +124,10 @@ sound-taken n xs w e = ((λ _. sound-unbroken n xs w (whole-verdict (broken n (m
 
 -- a code that is refused is not sound
 pub unsound-refused : (n : ℕ) (xs : List Instruction) (f : Fault) → (n ≤ 4096 → length xs ≡ n) → Err f ≡ stored n xs → Decides false (Sound n xs)
-unsound-refused n xs f w e =
-    ((λ t. absurd (false≢true t)),
-    (λ s. let ok : _≡_ {A = Result (List Instruction) Fault} (Err f) (Ok xs) = e ∙ sym (told-broken n xs None (unbroken-sound n xs (w (s .1)) s)) in let z : _≡_ {A = ℕ} 0 1 = cc in absurd (omega arith)))
+unsound-refused n xs f w e = (
+  (λ t. absurd (false≢true t)),
+  (λ s. let ok : _≡_ {A = Result (List Instruction) Fault} (Err f) (Ok xs) = e ∙ sym (told-broken n xs None (unbroken-sound n xs (w (s .1)) s)) in let z : _≡_ {A = ℕ} 0 1 = cc in absurd (omega arith)),
+)
 
 -- what a store holds is sound
 pub store-sound : (s : CodeStore) → Sound (length (instructions s)) (instructions s)

@@ -212,23 +212,59 @@ impl Word {
             Opcode::Write => Instruction::Write { line: first as u8 },
             Opcode::Read => Instruction::Read { line: first as u8 },
             Opcode::Depend => Instruction::Depend { line: first as u8 },
-            Opcode::Expect => Instruction::Expect { task: first as u8, end: second },
+            Opcode::Expect => Instruction::Expect {
+                task: first as u8,
+                end: second,
+            },
             Opcode::Release => Instruction::Release { task: first as u8 },
             Opcode::Enter => Instruction::Enter { mode: first as u8 },
-            Opcode::FutureWrite => Instruction::FutureWrite { ticks: first, address: second },
-            Opcode::FutureSwitch => Instruction::FutureSwitch { ticks: first, address: second },
-            Opcode::FutureRead => Instruction::FutureRead { ticks: first, address: second },
-            Opcode::FutureRelease => Instruction::FutureRelease { task: first as u8, address: second },
-            Opcode::JumpIf => Instruction::JumpIf { condition: first as u8, address: second },
+            Opcode::FutureWrite => Instruction::FutureWrite {
+                ticks: first,
+                address: second,
+            },
+            Opcode::FutureSwitch => Instruction::FutureSwitch {
+                ticks: first,
+                address: second,
+            },
+            Opcode::FutureRead => Instruction::FutureRead {
+                ticks: first,
+                address: second,
+            },
+            Opcode::FutureRelease => Instruction::FutureRelease {
+                task: first as u8,
+                address: second,
+            },
+            Opcode::JumpIf => Instruction::JumpIf {
+                condition: first as u8,
+                address: second,
+            },
             Opcode::Jump => Instruction::Jump { address: first },
             Opcode::Call => Instruction::Call { address: first },
-            Opcode::Copy => Instruction::Copy { to: Register::numbered(first), from: Register::numbered(second) },
-            Opcode::Push => Instruction::Push { from: Register::numbered(first) },
-            Opcode::Pop => Instruction::Pop { to: Register::numbered(first) },
-            Opcode::GetParent => Instruction::GetParent { to: Register::numbered(first), of: Register::numbered(second) },
-            Opcode::SetParent => Instruction::SetParent { of: Register::numbered(first), to: Register::numbered(second) },
-            Opcode::Adopt => Instruction::Adopt { from: Register::numbered(first), to: Register::numbered(second) },
-            Opcode::Delete => Instruction::Delete { beneath: Register::numbered(first) },
+            Opcode::Copy => Instruction::Copy {
+                to: Register::numbered(first),
+                from: Register::numbered(second),
+            },
+            Opcode::Push => Instruction::Push {
+                from: Register::numbered(first),
+            },
+            Opcode::Pop => Instruction::Pop {
+                to: Register::numbered(first),
+            },
+            Opcode::GetParent => Instruction::GetParent {
+                to: Register::numbered(first),
+                of: Register::numbered(second),
+            },
+            Opcode::SetParent => Instruction::SetParent {
+                of: Register::numbered(first),
+                to: Register::numbered(second),
+            },
+            Opcode::Adopt => Instruction::Adopt {
+                from: Register::numbered(first),
+                to: Register::numbered(second),
+            },
+            Opcode::Delete => Instruction::Delete {
+                beneath: Register::numbered(first),
+            },
         }
     }
 }
@@ -246,18 +282,46 @@ impl Instruction {
             Instruction::Expect { task, end } => Word::new(Opcode::Expect, task as u16, end),
             Instruction::Release { task } => Word::new(Opcode::Release, task as u16, 0),
             Instruction::Enter { mode } => Word::new(Opcode::Enter, mode as u16, 0),
-            Instruction::FutureWrite { ticks, address } => Word::new(Opcode::FutureWrite, ticks, address),
-            Instruction::FutureSwitch { ticks, address } => Word::new(Opcode::FutureSwitch, ticks, address),
-            Instruction::FutureRead { ticks, address } => Word::new(Opcode::FutureRead, ticks, address),
-            Instruction::FutureRelease { task, address } => Word::new(Opcode::FutureRelease, task as u16, address),
-            Instruction::JumpIf { condition, address } => Word::new(Opcode::JumpIf, condition as u16, address),
+            Instruction::FutureWrite { ticks, address } => Word::new(
+                Opcode::FutureWrite,
+                ticks,
+                address,
+            ),
+            Instruction::FutureSwitch { ticks, address } => Word::new(
+                Opcode::FutureSwitch,
+                ticks,
+                address,
+            ),
+            Instruction::FutureRead { ticks, address } => Word::new(
+                Opcode::FutureRead,
+                ticks,
+                address,
+            ),
+            Instruction::FutureRelease { task, address } => Word::new(
+                Opcode::FutureRelease,
+                task as u16,
+                address,
+            ),
+            Instruction::JumpIf { condition, address } => Word::new(
+                Opcode::JumpIf,
+                condition as u16,
+                address,
+            ),
             Instruction::Jump { address } => Word::new(Opcode::Jump, address, 0),
             Instruction::Call { address } => Word::new(Opcode::Call, address, 0),
             Instruction::Copy { to, from } => Word::new(Opcode::Copy, to.number(), from.number()),
             Instruction::Push { from } => Word::new(Opcode::Push, from.number(), 0),
             Instruction::Pop { to } => Word::new(Opcode::Pop, to.number(), 0),
-            Instruction::GetParent { to, of } => Word::new(Opcode::GetParent, to.number(), of.number()),
-            Instruction::SetParent { of, to } => Word::new(Opcode::SetParent, of.number(), to.number()),
+            Instruction::GetParent { to, of } => Word::new(
+                Opcode::GetParent,
+                to.number(),
+                of.number(),
+            ),
+            Instruction::SetParent { of, to } => Word::new(
+                Opcode::SetParent,
+                of.number(),
+                to.number(),
+            ),
             Instruction::Adopt { from, to } => Word::new(Opcode::Adopt, from.number(), to.number()),
             Instruction::Delete { beneath } => Word::new(Opcode::Delete, beneath.number(), 0),
         }

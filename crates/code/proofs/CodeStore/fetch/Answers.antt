@@ -8,7 +8,7 @@ returns-then-at-self c =
     record {
       value = store-at (c .args .self .now) (c .args .at) (c .if-at-self .taken);
       within = store-within (c .args .self .now) (c .args .at) (c .if-at-self .taken);
-      next = store-goes-on (c .args .self .now) (c .args .at) (c .if-at-self .taken)
+      next = store-goes-on (c .args .self .now) (c .args .at) (c .if-at-self .taken);
     }
 
 pub returns-else-at-self : need.returns-else-at-self
@@ -16,5 +16,5 @@ returns-else-at-self c =
     record {
       value = store-past (c .args .self .now) (c .args .at) (c .if-at-self .left);
       within = tt;
-      next = λ e. absurd (true≢false e)
+      next = λ e. absurd (true≢false e);
     }

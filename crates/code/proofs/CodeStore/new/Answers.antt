@@ -26,8 +26,8 @@ returns-then-not-is-legal c =
     let value = refused-place (c .args .code) (c .args .len) (c .loop-k .k) (c .loop-k-test .taken) few whole ends (c .loop-k .inv) bad in
     record { value = value; sound = unsound-refused (c .args .len) (take (c .args .len) (c .args .code)) (BadCode (c .loop-k .k)) (λ _. length-take-le (c .args .len) (c .args .code) whole) value }
 
-pub returns-after-loop-k : need.returns-after-loop-k
-returns-after-loop-k c =
+pub returns : need.returns
+returns c =
     let whole : c .args .len ≤ length (c .args .code) = omega arith in
     let few : c .args .len ≤ 4096 = omega arith in
     let some : 0 < c .args .len = omega arith in
