@@ -43,47 +43,58 @@ front-word xs n j h w =
 pub front-words : (xs : List Instruction) (n : ℕ) → n ≤ length xs → length (map word-of (take n xs)) ≡ n
 front-words xs n w = length-map (take n xs) word-of ∙ length-take-le n xs w
 
--- the end of the first n
-front-closed : (xs : List Instruction) (n : ℕ) → 0 < n → n ≤ 4096 → n ≤ length xs → is-end (word-of (getD xs (n - 1) Return) .opcode) ≡ closed n (map word-of (take n xs))
-front-closed xs n h f w =
-    let low : n - 1 < n = omega arith in
+-- the length is right, so that the end decides
+closed-is : (n : ℕ) (ws : List Word) → 0 < n → n ≤ 4096 → closed n ws ≡ is-end (getD ws (n - 1) (word-of Return) .opcode)
+closed-is n ws h f =
     let one : ltb 0 n ≡ true = lt-ltb 0 n h in
     let two : leb n 4096 ≡ true = le-leb n 4096 f in
-    ap (λ v. is-end (v .opcode)) (sym (front-word xs n (n - 1) low w)) ∙ sym (ap (λ b. (b && leb n 4096) && is-end (getD (map word-of (take n xs)) (n - 1) (word-of Return) .opcode)) one ∙ ap (λ b. b && is-end (getD (map word-of (take n xs)) (n - 1) (word-of Return) .opcode)) two)
+    ap (λ b. (b && leb n 4096) && is-end (getD ws (n - 1) (word-of Return) .opcode)) one ∙ ap (λ b. b && is-end (getD ws (n - 1) (word-of Return) .opcode)) two
+
+-- a wrong length
+pub broken-size : (n : ℕ) (ws : List Word) → (ltb 0 n && leb n 4096) ≡ false → broken n ws ≡ Some 0
+broken-size n ws e = cond-false (closed n ws) _ _ (and-left _ _ e)
+
+-- a wrong end
+pub broken-end : (n : ℕ) (ws : List Word) → is-end (getD ws (n - 1) (word-of Return) .opcode) ≡ false → broken n ws ≡ Some 0
+broken-end n ws e = cond-false (closed n ws) _ _ (and-right _ _ e)
+
+-- the first bad word
+pub broken-place : (n k : ℕ) (ws : List Word) → length ws ≡ n → k < n → n ≤ 4096 → is-end (getD ws (n - 1) (word-of Return) .opcode) ≡ true → ((j : ℕ) → j < k → legal n (getD ws j (word-of Return)) ≡ true) → legal n (getD ws k (word-of Return)) ≡ false → broken n ws ≡ Some k
+broken-place n k ws w h f e all bad =
+    cond-true (closed n ws) _ _ (closed-is n ws (omega arith) f ∙ e)
+    ∙ unmet-first (legal n) 0 ws (word-of Return) k (omega arith) all bad
+    ∙ ap Some (let z : 0 + k ≡ k = omega arith in z)
+
+-- nothing to refuse
+pub broken-nowhere : (n : ℕ) (ws : List Word) → length ws ≡ n → 0 < n → n ≤ 4096 → is-end (getD ws (n - 1) (word-of Return) .opcode) ≡ true → ((j : ℕ) → j < n → legal n (getD ws j (word-of Return)) ≡ true) → broken n ws ≡ None
+broken-nowhere n ws w h f e all =
+    cond-true (closed n ws) _ _ (closed-is n ws h f ∙ e) ∙ passed-unmet (legal n) 0 ws (word-of Return) (λ j l. all j (omega arith))
 
 -- what is refused, by what is broken
 told-broken : (n : ℕ) (xs : List Instruction) (o : Option ℕ) → broken n (map word-of xs) ≡ o → verdict o xs ≡ stored n xs
 told-broken n xs o e = ap (λ v. verdict v xs) (sym e)
 
--- a wrong length
-pub refused-size : (xs : List Instruction) (n : ℕ) → (ltb 0 n && leb n 4096) ≡ false → Err (BadCode 0) ≡ stored n xs
-refused-size xs n e = told-broken n xs (Some 0) (cond-false (closed n (map word-of xs)) _ _ (and-left _ _ e))
+-- a wrong end among the first n
+pub refused-end : (xs : List Instruction) (n : ℕ) → 0 < n → n ≤ length xs → is-end (word-of (getD xs (n - 1) Return) .opcode) ≡ false → Err (BadCode 0) ≡ stored n (take n xs)
+refused-end xs n h w e =
+    told-broken n (take n xs) (Some 0) (broken-end n (map word-of (take n xs)) (ap (λ v. is-end (v .opcode)) (front-word xs n (n - 1) (omega arith) w) ∙ e))
 
--- a wrong end
-pub refused-end : (xs : List Instruction) (n : ℕ) → 0 < n → n ≤ 4096 → n ≤ length xs → is-end (word-of (getD xs (n - 1) Return) .opcode) ≡ false → Err (BadCode 0) ≡ stored n (take n xs)
-refused-end xs n h f w e = told-broken n (take n xs) (Some 0) (cond-false (closed n (map word-of (take n xs))) _ _ (sym (front-closed xs n h f w) ∙ e))
-
--- the first bad instruction
+-- the first bad instruction among the first n
 pub refused-place : (xs : List Instruction) (n k : ℕ) → k < n → n ≤ 4096 → n ≤ length xs → is-end (word-of (getD xs (n - 1) Return) .opcode) ≡ true → ((j : ℕ) → j < k → legal n (word-of (getD xs j Return)) ≡ true) → legal n (word-of (getD xs k Return)) ≡ false → Err (BadCode k) ≡ stored n (take n xs)
 refused-place xs n k h f w e all bad =
-    let some : 0 < n = omega arith in
-    let count : length (map word-of (take n xs)) ≡ n = front-words xs n w in
-    let inside : k < length (map word-of (take n xs)) = omega arith in
     told-broken n (take n xs) (Some k)
-    (cond-true (closed n (map word-of (take n xs))) _ _ (sym (front-closed xs n some f w) ∙ e)
-    ∙ unmet-first (legal n) 0 (map word-of (take n xs)) (word-of Return) k inside
-    (λ i l. let near : i < n = omega arith in ap (legal n) (front-word xs n i near w) ∙ all i l)
-    (ap (legal n) (front-word xs n k h w) ∙ bad)
-    ∙ ap Some (let z : 0 + k ≡ k = omega arith in z))
+    (broken-place n k (map word-of (take n xs)) (front-words xs n w) h f
+    (ap (λ v. is-end (v .opcode)) (front-word xs n (n - 1) (omega arith) w) ∙ e)
+    (λ j l. ap (legal n) (front-word xs n j (omega arith) w) ∙ all j l)
+    (ap (legal n) (front-word xs n k h w) ∙ bad))
 
--- a code with nothing to refuse
+-- the first n with nothing to refuse
 pub taken : (xs : List Instruction) (n : ℕ) → 0 < n → n ≤ 4096 → n ≤ length xs → is-end (word-of (getD xs (n - 1) Return) .opcode) ≡ true → ((j : ℕ) → j < n → legal n (word-of (getD xs j Return)) ≡ true) → Ok (take n xs) ≡ stored n (take n xs)
 taken xs n h f w e all =
-    let count : length (map word-of (take n xs)) ≡ n = front-words xs n w in
     told-broken n (take n xs) None
-    (cond-true (closed n (map word-of (take n xs))) _ _ (sym (front-closed xs n h f w) ∙ e)
-    ∙ passed-unmet (legal n) 0 (map word-of (take n xs)) (word-of Return)
-    (λ j l. let near : j < n = omega arith in ap (legal n) (front-word xs n j near w) ∙ all j near))
+    (broken-nowhere n (map word-of (take n xs)) (front-words xs n w) h f
+    (ap (λ v. is-end (v .opcode)) (front-word xs n (n - 1) (omega arith) w) ∙ e)
+    (λ j l. ap (legal n) (front-word xs n j l w) ∙ all j l))
 
 -- a code that is not refused is sound
 pub sound-unbroken : (n : ℕ) (xs : List Instruction) → (n ≤ 4096 → length xs ≡ n) → broken n (map word-of xs) ≡ None → Sound n xs

@@ -1,6 +1,7 @@
 // The instructions of the machine, and the word that stands for each: its opcode and two operands.
 ghost use mathlib.Core.Path.{_≡_};
 ghost use mathlib.Core.Bool.{true, cond};
+ghost use Rattle.std.specs.Options.{Cases};
 ghost use Rattle.std.specs.declared.option.Option.the-variants.{Some, None};
 ghost use Rattle.code.specs.Opcodes.{operands-of, is-end, register-number, register-of};
 ghost use Rattle.code.specs.Words.{word-of, instruction-of};
@@ -188,7 +189,8 @@ impl Word {
 
     // The instruction that the word stands for, or none if an operand may not stand there.
     pub fn decode(self, len: usize) -> Option<Instruction>
-        ensures { λ r. ⌜ r ≡ cond (legal len self) (Some (instruction-of self)) None ⌝ }
+        ensures value { λ r. ⌜ r ≡ cond (legal len self) (Some (instruction-of self)) None ⌝ }
+        ensures back { λ r. ⌜ Cases r (Unit {0}) (λ i. word-of i ≡ self) ⌝ }
     {
         if self.is_legal(len) {
             Some(self.instruction(len))
@@ -272,7 +274,8 @@ impl Word {
 impl Instruction {
     // The word that stands for the instruction; operands that it does not have are 0.
     pub fn word(self) -> Word
-        ensures { λ r. ⌜ r ≡ word-of self ⌝ }
+        ensures value { λ r. ⌜ r ≡ word-of self ⌝ }
+        ensures back { λ r. ⌜ instruction-of r ≡ self ⌝ }
     {
         match self {
             Instruction::Return => Word::new(Opcode::Return, 0, 0),

@@ -15,14 +15,14 @@ use Rattle.code.proofs.CodeStore.new.Needs as need
 
 pub loop-k-again : need.loop-k-again
 loop-k-again c =
-    below-more _ _ (c .loop-k .inv) (ap (legal (c .args .len)) (sym (c .word-in-loop-k .ensures)) ∙ sym (c .if-not-is-legal .ensures tt))
+    below-more _ _ (c .loop-k .inv) (ap (legal (c .args .len)) (sym (c .word-in-loop-k .ensures .value)) ∙ sym (c .if-not-is-legal .ensures tt))
 
 pub returns-then-not-is-legal : need.returns-then-not-is-legal
 returns-then-not-is-legal c =
     let whole : c .args .len ≤ length (c .args .code) = omega arith in
     let few : c .args .len ≤ 4096 = omega arith in
-    let ends : is-end (word-of (getD (c .args .code) (c .args .len - 1) Return) .opcode) ≡ true = ap (λ w. is-end (w .opcode)) (sym (c .word .ensures)) ∙ sym (c .if-not-is-end .ensures tt) in
-    let bad : legal (c .args .len) (word-of (getD (c .args .code) (c .loop-k .k) Return)) ≡ false = ap (legal (c .args .len)) (sym (c .word-in-loop-k .ensures)) ∙ sym (c .if-not-is-legal .ensures tt) in
+    let ends : is-end (word-of (getD (c .args .code) (c .args .len - 1) Return) .opcode) ≡ true = ap (λ w. is-end (w .opcode)) (sym (c .word .ensures .value)) ∙ sym (c .if-not-is-end .ensures tt) in
+    let bad : legal (c .args .len) (word-of (getD (c .args .code) (c .loop-k .k) Return)) ≡ false = ap (legal (c .args .len)) (sym (c .word-in-loop-k .ensures .value)) ∙ sym (c .if-not-is-legal .ensures tt) in
     let value = refused-place (c .args .code) (c .args .len) (c .loop-k .k) (c .loop-k-test .taken) few whole ends (c .loop-k .inv) bad in
     record { value = value; sound = unsound-refused (c .args .len) (take (c .args .len) (c .args .code)) (BadCode (c .loop-k .k)) (λ _. length-take-le (c .args .len) (c .args .code) whole) value }
 
@@ -31,15 +31,14 @@ returns c =
     let whole : c .args .len ≤ length (c .args .code) = omega arith in
     let few : c .args .len ≤ 4096 = omega arith in
     let some : 0 < c .args .len = omega arith in
-    let ends : is-end (word-of (getD (c .args .code) (c .args .len - 1) Return) .opcode) ≡ true = ap (λ w. is-end (w .opcode)) (sym (c .word .ensures)) ∙ sym (c .if-not-is-end .ensures tt) in
+    let ends : is-end (word-of (getD (c .args .code) (c .args .len - 1) Return) .opcode) ≡ true = ap (λ w. is-end (w .opcode)) (sym (c .word .ensures .value)) ∙ sym (c .if-not-is-end .ensures tt) in
     let value = taken (c .args .code) (c .args .len) some few whole ends (λ j h. c .loop-k .inv j (omega arith)) in
     record { value = value; sound = sound-taken (c .args .len) (take (c .args .len) (c .args .code)) (λ _. length-take-le (c .args .len) (c .args .code) whole) value }
 
 pub returns-then-not-is-end : need.returns-then-not-is-end
 returns-then-not-is-end c =
     let whole : c .args .len ≤ length (c .args .code) = omega arith in
-    let few : c .args .len ≤ 4096 = omega arith in
     let some : 0 < c .args .len = omega arith in
-    let ends : is-end (word-of (getD (c .args .code) (c .args .len - 1) Return) .opcode) ≡ false = ap (λ w. is-end (w .opcode)) (sym (c .word .ensures)) ∙ sym (c .if-not-is-end .ensures tt) in
-    let value = refused-end (c .args .code) (c .args .len) some few whole ends in
+    let ends : is-end (word-of (getD (c .args .code) (c .args .len - 1) Return) .opcode) ≡ false = ap (λ w. is-end (w .opcode)) (sym (c .word .ensures .value)) ∙ sym (c .if-not-is-end .ensures tt) in
+    let value = refused-end (c .args .code) (c .args .len) some whole ends in
     record { value = value; sound = unsound-refused (c .args .len) (take (c .args .len) (c .args .code)) (BadCode 0) (λ _. length-take-le (c .args .len) (c .args .code) whole) value }
