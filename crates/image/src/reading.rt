@@ -32,8 +32,7 @@ pub fn read(bytes: &[u8]) -> Result<CodeStore, Fault>
 
 // The count of an image whose head and length are right.
 fn count(bytes: &[u8]) -> Result<usize, Fault>
-    ensures value { λ r. ⌜ r ≡ cond (headed (now (bytes .entry))) (Ok (count-in (now (bytes .entry)))) (Err (NoImage 0)) ⌝ }
-    ensures small { λ _. ⌜ ((k : ℕ) → getD (now (bytes .entry)) k 0 < 256) ⌝ }
+    ensures { λ r. ⌜ r ≡ cond (headed (now (bytes .entry))) (Ok (count-in (now (bytes .entry)))) (Err (NoImage 0)) ⌝ }
 {
     if bytes.len() < 4 {
         return Err(Fault::NoImage { place: 0 });
