@@ -2,7 +2,7 @@
 use Prim.Native.Nat.{ℕ, zero, suc, _+_, _*_, _/_, _%_, _<_, _≤_}
 use lib.Chars.{codes}
 use lib.Dec.{eqb}
-use lib.ListN.{length, getD, drop}
+use lib.ListN.{length, getD, take, drop}
 use mathlib.Core.Bool.{Bool, true, false, cond, _&&_}
 use mathlib.Core.List.{List, [], _∷_, _++_, map}
 use mathlib.Core.Path.{_≡_, refl, sym, ap, _∙_, subst}
@@ -10,10 +10,11 @@ use native.Mathlib.Omega.{arith}
 use Rattle.fault.specs.declared.Fault.{Fault}
 use Rattle.fault.specs.declared.Fault.the-variants.{NoImage, BadCode}
 use Rattle.std.proofs.shelf.Elements.{all-drop}
-use Rattle.std.proofs.shelf.Lists.{length-map, length-drop}
+use Rattle.std.proofs.shelf.Lists.{length-map, length-drop, take-at}
 use Rattle.std.proofs.shelf.Tests.{and-parts, and-from, eqb-true, eq-eqb, cond-true, cond-false, cases-bool}
 use Rattle.std.specs.Joined.{joined}
 use Rattle.std.specs.Options.{isSome}
+use Rattle.std.specs.Vec.{made}
 use Rattle.std.specs.shelf.Lists.{All}
 use Rattle.std.specs.declared.option.Option.{Option}
 use Rattle.std.specs.declared.option.Option.the-variants.{Some, None}
@@ -27,7 +28,8 @@ use Rattle.code.specs.declared.instructions.Word.{Word}
 use Rattle.code.specs.Opcodes.{operands-of}
 use Rattle.code.specs.Promises.{Sound}
 use Rattle.code.specs.Rules.{allowed, legal, unmet, broken, closed}
-use Rattle.code.specs.Stores.{verdict}
+use Rattle.code.specs.declared.CodeStore.{CodeStore}
+use Rattle.code.specs.Stores.{verdict, held, instructions}
 use Rattle.code.specs.Words.{word-of, instruction-of, made-of}
 use Rattle.code.proofs.Decoding.{instructions-back, words-back}
 use Rattle.code.proofs.Storing.{unbroken-sound}
@@ -225,3 +227,19 @@ written-back bs xs s e =
 
 pub one-image : OneImage
 one-image bs cs xs s t e f = sym (written-back bs xs s e) ∙ written-back cs xs t f
+
+-- the bytes of a store that was read
+pub store-back : (r : Result CodeStore Fault) (bs : List ℕ) → All (λ b. b < 256) bs → held r ≡ read-image bs → made r (λ s. image-of (instructions s) ≡ bs)
+store-back (Ok s) bs a e = written-back bs (instructions s) a (sym e)
+store-back (Err f) bs a e = tt
+
+-- how long an image is
+image-size : (xs : List Instruction) → length (image-of xs) ≡ image-length (length xs)
+image-size xs =
+    let many : length (joined cell (map word-of xs)) ≡ 6 * length xs = cells-length (map word-of xs) ∙ ap (λ n. 6 * n) (length-map xs word-of) in
+    omega arith
+
+-- an image at the front of a buffer
+pub buffer-back : (n : ℕ) (xs : List Instruction) (cs rest : List ℕ) → Sound (length xs) xs → n ≡ image-length (length xs) → cs ≡ image-of xs ++ rest → read-image (take n cs) ≡ Ok xs
+buffer-back n xs cs rest s l e =
+    ap (λ u. read-image (take n u)) e ∙ ap read-image (take-at (image-of xs) rest n (image-size xs ∙ sym l)) ∙ read-back xs s

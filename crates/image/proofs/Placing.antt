@@ -8,11 +8,12 @@ use mathlib.Core.List.{List, [], _∷_, _++_, map}
 use mathlib.Core.Path.{_≡_, refl, sym, ap, _∙_}
 use native.Mathlib.Omega.{arith}
 use Rattle.std.proofs.shelf.Lists.{append-nil, append-assoc, length-append, length-map, length-take-le, take-append-drop, take-all, take-at, drop-at, drop-drop, joined-more, map-more}
-use Rattle.std.proofs.shelf.Tests.{cond-true, le-leb}
+use Rattle.std.proofs.shelf.Tests.{cond-true, cond-false, le-leb, lt-leb}
 use Rattle.std.specs.Joined.{joined}
 use Rattle.std.specs.declared.result.Result.{Result}
 use Rattle.std.specs.declared.result.Result.the-variants.{Ok, Err}
 use Rattle.fault.specs.declared.Fault.{Fault}
+use Rattle.fault.specs.declared.Fault.the-variants.{ShortBuffer}
 use Rattle.code.specs.declared.instructions.Instruction.{Instruction}
 use Rattle.code.specs.declared.instructions.Instruction.the-variants.{Return}
 use Rattle.code.specs.declared.instructions.Word.{Word}
@@ -77,10 +78,19 @@ image-put a b c xs e f =
     ∙ ap (λ s. (s ++ joined cell (map word-of xs)) ++ drop (4 + 6 * length xs) b) front
     ∙ ap (λ s. image-of xs ++ s) rest
 
--- what writing returns and leaves
-pub written-all : (a b c hd : List ℕ) (ys xs : List Instruction) (n : ℕ) → image-length (length xs) ≤ length a → n ≡ length xs → hd ≡ head-of n → ys ≡ xs → b ≡ paste a 0 hd (length hd) → c ≡ (take 4 b ++ joined cell (map word-of ys)) ++ drop (image-length (length ys)) b → (Ok (4 + 6 * n), c) ≡ written xs a
-written-all a b c hd ys xs n room count top same e f =
+-- what the buffer holds in the end
+pub image-left : (a b c hd : List ℕ) (ys xs : List Instruction) (n : ℕ) → n ≡ length xs → hd ≡ head-of n → ys ≡ xs → b ≡ paste a 0 hd (length hd) → c ≡ (take 4 b ++ joined cell (map word-of ys)) ++ drop (image-length (length ys)) b → c ≡ image-of xs ++ drop (image-length (length xs)) a
+image-left a b c hd ys xs n count top same e f =
     let head : hd ≡ head-of (length xs) = top ∙ ap head-of count in
     let b-is : b ≡ paste a 0 (head-of (length xs)) 4 = e ∙ ap (λ s. paste a 0 s (length s)) head in
-    let c-is : c ≡ image-of xs ++ drop (image-length (length xs)) a = image-put a b c xs b-is (f ∙ ap (λ s. (take 4 b ++ joined cell (map word-of s)) ++ drop (image-length (length s)) b) same) in
-    ap (λ m. (Ok (4 + 6 * m), c)) count ∙ ap (λ s. (Ok (image-length (length xs)), s)) c-is ∙ sym (cond-true (leb (image-length (length xs)) (length a)) _ _ (le-leb (image-length (length xs)) (length a) room))
+    image-put a b c xs b-is (f ∙ ap (λ s. (take 4 b ++ joined cell (map word-of s)) ++ drop (image-length (length s)) b) same)
+
+-- what writing returns and leaves
+pub written-all : (a c : List ℕ) (xs : List Instruction) (n : ℕ) → image-length (length xs) ≤ length a → n ≡ image-length (length xs) → c ≡ image-of xs ++ drop (image-length (length xs)) a → (Ok n, c) ≡ written xs a
+written-all a c xs n room size e =
+    ap (λ m. (Ok m, c)) size ∙ ap (λ s. (Ok (image-length (length xs)), s)) e ∙ sym (cond-true (leb (image-length (length xs)) (length a)) _ _ (le-leb (image-length (length xs)) (length a) room))
+
+-- what it returns where the buffer is too short
+pub written-none : (a : List ℕ) (xs : List Instruction) (n : ℕ) → length a < image-length (length xs) → n ≡ image-length (length xs) → (Err (ShortBuffer n), a) ≡ written xs a
+written-none a xs n short size =
+    ap (λ m. (Err (ShortBuffer m), a)) size ∙ sym (cond-false (leb (image-length (length xs)) (length a)) _ _ (lt-leb (image-length (length xs)) (length a) short))

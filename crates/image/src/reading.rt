@@ -1,17 +1,18 @@
 // Reading an image.
-ghost use lib.ListN.{length, take, getD, drop};
-ghost use mathlib.Core.Bool.{cond, true};
+ghost use lib.ListN.{length, take};
+ghost use mathlib.Core.Bool.{cond};
 ghost use mathlib.Core.List.{map};
 ghost use mathlib.Core.Path.{_≡_};
-ghost use Prim.Native.Nat.{ℕ, _+_, _*_, _<_, _≤_};
-ghost use Rattle.std.specs.Results.{Cases, isOk};
+ghost use Rattle.std.specs.Results.{Cases};
+ghost use Rattle.std.specs.Vec.{made};
 ghost use Rattle.std.specs.declared.result.Result.the-variants.{Ok, Err};
 ghost use Rattle.fault.specs.declared.Fault.the-variants.{NoImage};
 ghost use Rattle.code.specs.Rules.{broken};
-ghost use Rattle.code.specs.Stores.{verdict, held};
+ghost use Rattle.code.specs.Stores.{instructions, verdict, held};
 ghost use Rattle.code.specs.Words.{instruction-of};
-ghost use Rattle.image.specs.Images.{image-length, headed, count-in, read-image};
+ghost use Rattle.image.specs.Images.{image-length, image-of, headed, count-in, read-image};
 ghost use Rattle.image.specs.Parsing.{Parsed, Stopped};
+ghost use Rattle.image.specs.Promises.{WrittenBack, OneImage};
 use super::cells::half_at;
 use super::cells::word_at;
 use super::marks::HEAD;
@@ -24,6 +25,14 @@ use fault::Fault;
 // The code of an image; what is no image is refused first, and then what breaks a rule of the code store.
 pub fn read(bytes: &[u8]) -> Result<CodeStore, Fault>
     ensures value { λ r. ⌜ held r ≡ read-image (now (bytes .entry)) ⌝ }
+    ensures back { λ r. ⌜ made r (λ store. image-of (instructions store) ≡ now (bytes .entry)) ⌝ }
+    ensures laws { λ _. ⌜ WrittenBack × OneImage ⌝ }
+{
+    load(bytes)
+}
+
+fn load(bytes: &[u8]) -> Result<CodeStore, Fault>
+    ensures { λ r. ⌜ held r ≡ read-image (now (bytes .entry)) ⌝ }
 {
     let count = count(bytes)?;
     let words = parse(bytes, count)?;

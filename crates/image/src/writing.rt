@@ -5,10 +5,13 @@ ghost use mathlib.Core.List.{_++_, map};
 ghost use mathlib.Core.Path.{_≡_};
 ghost use Prim.Native.Nat.{_+_, _*_, _<_, _≤_};
 ghost use Rattle.std.specs.Joined.{joined};
+ghost use Rattle.std.specs.Vec.{made};
+ghost use Rattle.std.specs.declared.result.Result.the-variants.{Ok};
 ghost use Rattle.code.specs.Stores.{instructions};
 ghost use Rattle.code.specs.Words.{word-of};
 ghost use Rattle.image.specs.Cells.{cell};
-ghost use Rattle.image.specs.Images.{head-of, image-length, written};
+ghost use Rattle.image.specs.Images.{head-of, image-length, written, read-image};
+ghost use Rattle.image.specs.Promises.{ReadBack, OneCode};
 use super::cells::six_bytes;
 use super::marks::HEAD;
 use code::CodeStore;
@@ -18,6 +21,8 @@ use fault::Fault;
 // Writes the image of a code to the front of a buffer and returns its length; a buffer too short stays as it is.
 pub fn write(store: &CodeStore, buffer: &mut [u8]) -> Result<usize, Fault>
     ensures value { λ r. ⌜ (r, now (buffer .exit)) ≡ written (instructions (now (store .entry))) (now (buffer .entry)) ⌝ }
+    ensures back { λ r. ⌜ made r (λ n. read-image (take n (now (buffer .exit))) ≡ Ok (instructions (now (store .entry)))) ⌝ }
+    ensures laws { λ _. ⌜ ReadBack × OneCode ⌝ }
 {
     let count = store.len();
     let needed = 4 + 6 * count;
