@@ -1,14 +1,11 @@
 -- An instruction and its word determine each other.
 use Prim.Native.Nat.{ℕ, _+_, _<_}
 use lib.Dec.{ltb, eqb}
-use lib.ListN.{length, getD}
 use mathlib.Core.Bool.{true, _&&_}
 use mathlib.Core.List.{List, [], _∷_, map}
 use mathlib.Core.Path.{_≡_, refl, sym, ap, _∙_}
-use native.Mathlib.Omega.{arith}
 use Rattle.std.proofs.shelf.Tests.{and-parts, ltb-true, eqb-true}
-use Rattle.std.specs.declared.option.Option.{Option}
-use Rattle.std.specs.declared.option.Option.the-variants.{Some, None}
+use Rattle.std.specs.declared.option.Option.the-variants.{None}
 use Rattle.code.specs.declared.instructions.Opcode.{Opcode}
 use Rattle.code.specs.declared.instructions.Opcode.the-variants as op
 use Rattle.code.specs.declared.instructions.Word.{Word}

@@ -1,22 +1,20 @@
 -- Operands that pass the tests lie in their ranges, and the other way round.
-use Prim.Native.Nat.{ℕ, _<_, _≤_}
+use Prim.Native.Nat.{ℕ, _<_}
 use lib.Dec.{ltb, eqb}
-use mathlib.Core.Bool.{Bool, true, false, not, _&&_, cond}
-use mathlib.Core.Logic.{_≢_, _⊎_, inl, inr}
-use mathlib.Core.Path.{_≡_, refl, sym, ap, _∙_, subst}
+use mathlib.Core.Bool.{true, not, _&&_}
+use mathlib.Core.Logic.{_≢_, inl, inr}
+use mathlib.Core.Path.{_≡_, refl, sym, ap, _∙_}
 use native.Mathlib.Omega.{arith}
-use Rattle.std.proofs.shelf.Tests.{and-parts, and-from, ltb-true, lt-ltb, eqb-true, eqb-false, eq-eqb, ne-eqb, not-true, not-from-false, false≢true}
+use Rattle.std.proofs.shelf.Tests.{and-parts, and-from, eqb-false, ne-eqb, not-true, not-from-false, false≢true}
 use Rattle.std.proofs.shelf.Ways.{tells}
 use Rattle.code.specs.declared.instructions.Register.{Register}
 use Rattle.code.specs.declared.instructions.Register.the-variants.{R0, R1, R2, R3}
-use Rattle.code.specs.declared.instructions.Opcode.{Opcode}
 use Rattle.code.specs.declared.instructions.Opcode.the-variants as op
-use Rattle.code.specs.declared.instructions.Word.{Word}
 use Rattle.code.specs.declared.instructions.Instruction.{Instruction}
 use Rattle.code.specs.declared.instructions.Instruction.the-variants.{Return, Write, Read, Depend, Expect, Release, Enter, FutureWrite, FutureSwitch, FutureRead, FutureRelease, JumpIf, Jump, Call, Copy, Push, Pop, GetParent, SetParent, Adopt, Delete}
 use Rattle.code.specs.Opcodes.{is-end, register-number, register-of}
-use Rattle.code.specs.Words.{word-of, instruction-of, made-of, taking}
-use Rattle.code.specs.Rules.{legal, allowed}
+use Rattle.code.specs.Words.{word-of}
+use Rattle.code.specs.Rules.{legal}
 use Rattle.code.specs.Bounds.{Within, Last}
 
 -- the register of a register's number

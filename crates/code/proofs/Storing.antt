@@ -2,19 +2,16 @@
 use Prim.Native.Nat.{ℕ, _+_, _-_, _<_, _≤_}
 use lib.Dec.{ltb, leb}
 use lib.ListN.{length, getD, take}
-use mathlib.Core.Bool.{Bool, true, false, cond, _&&_}
+use mathlib.Core.Bool.{true, false, _&&_}
 use mathlib.Core.List.{List, map}
 use mathlib.Core.Logic.{inl, inr}
 use mathlib.Core.Path.{_≡_, refl, sym, ap, _∙_, subst}
 use native.Mathlib.Omega.{arith}
-use borrow.Author.Needs.{needs}
 use Rattle.fault.specs.declared.Fault.{Fault}
 use Rattle.fault.specs.declared.Fault.the-variants.{BadCode}
 use Rattle.std.proofs.shelf.Lists.{length-map, getD-map, getD-take, getD-past, length-take-le}
-use Rattle.std.proofs.shelf.Tests.{and-parts, and-from, ltb-true, leb-true, lt-ltb, le-leb, cond-true, cond-false, le-ltb, lt-leb, and-left, and-right, cases-order, false≢true}
-use Rattle.std.proofs.shelf.Ways.{tells}
+use Rattle.std.proofs.shelf.Tests.{and-parts, and-from, ltb-true, leb-true, lt-ltb, le-leb, cond-true, cond-false, and-left, and-right, cases-order, false≢true}
 use Rattle.std.specs.Orderings.{Decides}
-use Rattle.std.specs.Results.{isOk}
 use Rattle.std.specs.declared.option.Option.{Option}
 use Rattle.std.specs.declared.option.Option.the-variants.{Some, None}
 use Rattle.std.specs.declared.result.Result.{Result}
@@ -26,8 +23,8 @@ use Rattle.code.specs.declared.instructions.Word.{Word}
 use Rattle.code.specs.Opcodes.{is-end}
 use Rattle.code.specs.Words.{word-of}
 use Rattle.code.specs.Rules.{legal, unmet, closed, broken}
-use Rattle.code.specs.Stores.{instructions, verdict, stored, held}
-use Rattle.code.specs.Bounds.{Within, Last}
+use Rattle.code.specs.Stores.{instructions, verdict, stored}
+use Rattle.code.specs.Bounds.{Within}
 use Rattle.code.specs.Promises.{Sound}
 use Rattle.code.proofs.Ranges.{within, within-legal, last, last-ends}
 use Rattle.code.proofs.Unmet.{none-passed, unmet-passed, passed-unmet, unmet-first}

@@ -1,7 +1,7 @@
 // Making a code store and reading it.
 ghost use mathlib.Core.Path.{_≡_};
 ghost use mathlib.Core.Bool.{false};
-ghost use Prim.Native.Nat.{ℕ, _+_, _<_, _≤_};
+ghost use Prim.Native.Nat.{_+_, _<_, _≤_};
 ghost use lib.ListN.{length, getD, take};
 ghost use Rattle.std.specs.Orderings.{Decides};
 ghost use Rattle.std.specs.Results.{isOk};

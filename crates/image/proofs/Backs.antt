@@ -1,17 +1,16 @@
 -- Code and image determine each other.
-use Prim.Native.Nat.{ℕ, zero, suc, _+_, _*_, _/_, _%_, _<_, _≤_}
-use lib.Chars.{codes}
+use Prim.Native.Nat.{ℕ, zero, suc, _+_, _*_, _/_, _%_, _<_}
 use lib.Dec.{eqb}
 use lib.ListN.{length, getD, take, drop}
 use mathlib.Core.Bool.{Bool, true, false, cond, _&&_}
 use mathlib.Core.List.{List, [], _∷_, _++_, map}
-use mathlib.Core.Path.{_≡_, refl, sym, ap, _∙_, subst}
+use mathlib.Core.Path.{_≡_, refl, sym, ap, _∙_}
 use native.Mathlib.Omega.{arith}
 use Rattle.fault.specs.declared.Fault.{Fault}
-use Rattle.fault.specs.declared.Fault.the-variants.{NoImage, BadCode}
+use Rattle.fault.specs.declared.Fault.the-variants.{NoImage}
 use Rattle.std.proofs.shelf.Elements.{all-drop}
 use Rattle.std.proofs.shelf.Lists.{length-map, length-drop, take-at}
-use Rattle.std.proofs.shelf.Tests.{and-parts, and-from, eqb-true, eq-eqb, cond-true, cond-false, cases-bool}
+use Rattle.std.proofs.shelf.Tests.{and-parts, and-from, eqb-true, eq-eqb, cond-true}
 use Rattle.std.specs.Joined.{joined}
 use Rattle.std.specs.Options.{isSome}
 use Rattle.std.specs.Vec.{made}
@@ -36,7 +35,7 @@ use Rattle.code.proofs.Storing.{unbroken-sound}
 use Rattle.code.proofs.Unmet.{none-passed}
 use Rattle.image.specs.Cells.{half, value, cell, blank, padded, clean, word-in, words-in}
 use Rattle.image.specs.Images.{image-length, head-of, image-of, headed, count-in, known, decoded, read-cells, read-image}
-use Rattle.image.specs.Marks.{mark-of, opcodes, found, marked}
+use Rattle.image.specs.Marks.{mark-of, opcodes, found}
 use Rattle.image.specs.Promises.{ReadBack, WrittenBack, OneCode, OneImage}
 use Rattle.image.proofs.Finding.{found-mark, mark-two, mark-found}
 use Rattle.image.proofs.Placing.{cells-length}

@@ -1,18 +1,14 @@
 -- From words to a code.
-use Prim.Native.Nat.{ℕ, _+_, _-_, _*_, _<_, _≤_}
-use lib.Dec.{leb, ltb}
+use Prim.Native.Nat.{ℕ, _+_, _-_, _<_, _≤_}
 use lib.ListN.{length, getD, take, set}
-use mathlib.Core.Bool.{Bool, true, false, cond, _&&_}
+use mathlib.Core.Bool.{Bool, true, false, cond}
 use mathlib.Core.List.{List, [], _∷_, _++_, map}
 use mathlib.Core.Path.{_≡_, refl, sym, ap, _∙_}
 use native.Mathlib.Omega.{arith}
-use Rattle.fault.specs.declared.Fault.{Fault}
 use Rattle.fault.specs.declared.Fault.the-variants.{BadCode}
-use Rattle.std.proofs.shelf.Lists.{length-take-le, getD-take, take-more-set, map-more, take-all}
-use Rattle.std.specs.declared.option.Option.{Option}
+use Rattle.std.proofs.shelf.Lists.{length-take-le, getD-take, take-more-set, map-more}
 use Rattle.std.specs.declared.option.Option.the-variants.{Some, None}
-use Rattle.std.specs.declared.result.Result.{Result}
-use Rattle.std.specs.declared.result.Result.the-variants.{Ok, Err}
+use Rattle.std.specs.declared.result.Result.the-variants.{Err}
 use Rattle.code.specs.declared.instructions.Instruction.{Instruction}
 use Rattle.code.specs.declared.instructions.Instruction.the-variants.{Return}
 use Rattle.code.specs.declared.instructions.Word.{Word}
@@ -21,7 +17,7 @@ use Rattle.code.specs.Rules.{legal, unmet, broken}
 use Rattle.code.specs.Stores.{verdict, stored}
 use Rattle.code.specs.Words.{word-of, instruction-of}
 use Rattle.code.proofs.Decoding.{words-back}
-use Rattle.code.proofs.Storing.{broken-end, broken-place, broken-nowhere}
+use Rattle.code.proofs.Storing.{broken-end, broken-place}
 use Rattle.code.proofs.Unmet.{passed-unmet}
 
 -- what a word gives: the instruction, and that it is legal

@@ -1,18 +1,15 @@
 -- Cells put into a buffer one after another.
 use Prim.Native.Nat.{ℕ, _+_, _*_, _<_, _≤_}
-use lib.Chars.{codes}
 use lib.Dec.{leb}
 use lib.ListN.{length, getD, take, drop}
 use lib.Seq.{paste}
 use mathlib.Core.List.{List, [], _∷_, _++_, map}
 use mathlib.Core.Path.{_≡_, refl, sym, ap, _∙_}
 use native.Mathlib.Omega.{arith}
-use Rattle.std.proofs.shelf.Lists.{append-nil, append-assoc, length-append, length-map, length-take-le, take-append-drop, take-all, take-at, drop-at, drop-drop, joined-more, map-more}
+use Rattle.std.proofs.shelf.Lists.{append-nil, length-append, length-map, length-take-le, take-append-drop, take-all, take-at, drop-at, drop-drop, joined-more, map-more}
 use Rattle.std.proofs.shelf.Tests.{cond-true, cond-false, le-leb, lt-leb}
 use Rattle.std.specs.Joined.{joined}
-use Rattle.std.specs.declared.result.Result.{Result}
 use Rattle.std.specs.declared.result.Result.the-variants.{Ok, Err}
-use Rattle.fault.specs.declared.Fault.{Fault}
 use Rattle.fault.specs.declared.Fault.the-variants.{ShortBuffer}
 use Rattle.code.specs.declared.instructions.Instruction.{Instruction}
 use Rattle.code.specs.declared.instructions.Instruction.the-variants.{Return}
@@ -20,7 +17,6 @@ use Rattle.code.specs.declared.instructions.Word.{Word}
 use Rattle.code.specs.Words.{word-of}
 use Rattle.image.specs.Cells.{half, cell}
 use Rattle.image.specs.Images.{head-of, image-length, image-of, written}
-use Rattle.image.specs.Marks.{mark-of}
 use Rattle.image.proofs.Finding.{mark-two}
 
 -- a cell is six bytes
@@ -46,8 +42,8 @@ pub cells-none : (e : List ℕ) → e ≡ (take 4 e ++ []) ++ drop 4 e
 cells-none e = sym (ap (λ s. s ++ drop 4 e) (append-nil (take 4 e)) ∙ take-append-drop 4 e)
 
 -- one cell more
-pub cells-more : (b e c : List ℕ) (xs : List Instruction) (k : ℕ) → k < length xs → 4 ≤ length e → b ≡ (take 4 e ++ joined cell (map word-of (take k xs))) ++ drop (4 + 6 * k) e → c ≡ cell (word-of (getD xs k Return)) → paste b (4 + 6 * k) c (length c) ≡ (take 4 e ++ joined cell (map word-of (take (k + 1) xs))) ++ drop (4 + 6 * (k + 1)) e
-cells-more b e c xs k h w was is =
+pub cells-more : (b e c after : List ℕ) (xs : List Instruction) (k : ℕ) → k < length xs → 4 ≤ length e → b ≡ (take 4 e ++ joined cell (map word-of (take k xs))) ++ drop (4 + 6 * k) e → c ≡ cell (word-of (getD xs k Return)) → after ≡ paste b (4 + 6 * k) c (length c) → after ≡ (take 4 e ++ joined cell (map word-of (take (k + 1) xs))) ++ drop (4 + 6 * (k + 1)) e
+cells-more b e c after xs k h w was is then =
     let count : length (take k xs) ≡ k = length-take-le k xs (omega arith) in
     let four : length (take 4 e) ≡ 4 = length-take-le 4 e w in
     let many : length (joined cell (map word-of (take k xs))) ≡ 6 * length (take k xs) = cells-length (map word-of (take k xs)) ∙ ap (λ n. 6 * n) (length-map (take k xs) word-of) in
@@ -55,10 +51,11 @@ cells-more b e c xs k h w was is =
     let size : length c ≡ 6 = ap length is ∙ cell-six (word-of (getD xs k Return)) in
     let next : 4 + 6 * k + length c ≡ 4 + 6 * (k + 1) = omega arith in
     let longer : (take 4 e ++ joined cell (map word-of (take k xs))) ++ c ≡ take 4 e ++ joined cell (map word-of (take (k + 1) xs)) =
-        ap (λ s. (take 4 e ++ joined cell (map word-of (take k xs))) ++ s) is
-        ∙ joined-more cell (take 4 e) (map word-of (take k xs)) (word-of (getD xs k Return))
-        ∙ ap (λ s. take 4 e ++ joined cell s) (sym (map-more word-of xs k Return h)) in
-    put-next b (take 4 e ++ joined cell (map word-of (take k xs))) c e (4 + 6 * k) was front
+    ap (λ s. (take 4 e ++ joined cell (map word-of (take k xs))) ++ s) is
+    ∙ joined-more cell (take 4 e) (map word-of (take k xs)) (word-of (getD xs k Return))
+    ∙ ap (λ s. take 4 e ++ joined cell s) (sym (map-more word-of xs k Return h)) in
+    then
+    ∙ put-next b (take 4 e ++ joined cell (map word-of (take k xs))) c e (4 + 6 * k) was front
     ∙ ap (λ s. s ++ drop (4 + 6 * k + length c) e) longer
     ∙ ap (λ n. (take 4 e ++ joined cell (map word-of (take (k + 1) xs))) ++ drop n e) next
 

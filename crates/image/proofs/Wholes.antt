@@ -1,8 +1,8 @@
 -- Reading as a whole.
 use Prim.Native.Nat.{ℕ, zero, suc, _+_, _*_, _<_, _≤_}
-use lib.Dec.{leb, ltb, eqb}
-use lib.ListN.{length, getD, take, drop}
-use mathlib.Core.Bool.{Bool, true, false, cond, _&&_}
+use lib.Dec.{eqb}
+use lib.ListN.{length, take, drop}
+use mathlib.Core.Bool.{Bool, true, false, cond}
 use mathlib.Core.List.{List, [], _∷_, map}
 use mathlib.Core.Logic.{inl, inr}
 use mathlib.Core.Path.{_≡_, refl, sym, ap, _∙_}
@@ -10,7 +10,7 @@ use native.Mathlib.Omega.{arith}
 use Rattle.fault.specs.declared.Fault.{Fault}
 use Rattle.fault.specs.declared.Fault.the-variants.{NoImage, BadCode}
 use Rattle.std.proofs.shelf.Lists.{length-drop}
-use Rattle.std.proofs.shelf.Tests.{and-parts, and-right, eqb-true, cond-true, cond-false, cases-lt, lt-leb}
+use Rattle.std.proofs.shelf.Tests.{and-parts, and-right, eqb-true, cond-true, cases-lt, lt-leb}
 use Rattle.std.specs.Options.{isSome}
 use Rattle.std.specs.declared.option.Option.{Option}
 use Rattle.std.specs.declared.option.Option.the-variants.{Some, None}
@@ -24,7 +24,7 @@ use Rattle.code.specs.Words.{instruction-of}
 use Rattle.code.proofs.Storing.{broken-size}
 use Rattle.image.specs.Cells.{words-in}
 use Rattle.image.specs.Images.{image-length, headed, count-in, known, decoded, read-cells, read-image}
-use Rattle.image.specs.Parsing.{Parsed, Stopped}
+use Rattle.image.specs.Parsing.{Parsed}
 
 -- where every cell is a word, there are as many words
 pub known-length : (k : ℕ) (os : List (Option Word)) → unmet isSome k os ≡ None → length (known os) ≡ length os
@@ -65,9 +65,10 @@ too-many n ws xs h = ap (λ o. verdict o xs) (broken-size n ws (and-right _ _ (l
 -- the words at hand give what all the words give
 words-suffice : (n : ℕ) (ws vs : List Word) → length vs ≡ n → (n ≤ 4096 → take n ws ≡ vs) → verdict (broken n (take n ws)) (map instruction-of (take n ws)) ≡ decoded vs
 words-suffice n ws vs l e =
-    elim (cases-lt 4096 n)
-    [ inl many ↦ too-many n (take n ws) (map instruction-of (take n ws)) many ∙ sym (ap (λ m. verdict (broken m vs) (map instruction-of vs)) l ∙ too-many n vs (map instruction-of vs) many)
-    | inr few ↦ ap (λ us. verdict (broken n us) (map instruction-of us)) (e few) ∙ ap (λ m. verdict (broken m vs) (map instruction-of vs)) (sym l) ]
+    elim (cases-lt 4096 n) [
+      | inl many ↦ too-many n (take n ws) (map instruction-of (take n ws)) many ∙ sym (ap (λ m. verdict (broken m vs) (map instruction-of vs)) l ∙ too-many n vs (map instruction-of vs) many)
+      | inr few ↦ ap (λ us. verdict (broken n us) (map instruction-of us)) (e few) ∙ ap (λ m. verdict (broken m vs) (map instruction-of vs)) (sym l)
+    ]
 
 -- what is read of bytes that have the right head
 read-headed : (bs : List ℕ) (o : Option ℕ) → headed bs ≡ true → unmet isSome 0 (words-in (drop 4 bs)) ≡ o → read-image bs ≡ read-cells o (known (words-in (drop 4 bs)))
@@ -81,9 +82,3 @@ read-whole bs n ws v c p e =
     e
     ∙ words-suffice n ws (known (words-in (drop 4 bs))) (words-count bs (q .0) (p .all) ∙ sym (q .1)) (p .front)
     ∙ sym (read-headed bs None (q .0) (p .all))
-
--- a cell was no word
-pub read-stopped : (bs : List ℕ) (n : ℕ) (f : Fault) → Ok n ≡ cond (headed bs) (Ok (count-in bs)) (Err (NoImage 0)) → Stopped bs f → Err f ≡ read-image bs
-read-stopped bs n f c s =
-    let q = counted (headed bs) n (count-in bs) c in
-    ap Err (s .2) ∙ sym (read-headed bs (Some (s .0)) (q .0) (s .1))

@@ -3,14 +3,14 @@ ghost use lib.ListN.{length, getD};
 ghost use mathlib.Core.Path.{_≡_};
 ghost use Prim.Native.Nat.{_+_, _≤_};
 ghost use Rattle.image.specs.Cells.{value, cell, blank, padded, word-at};
+use super::marks::mark;
+use super::marks::opcode;
 use code::Opcode;
 use code::Operand;
 use code::Word;
-use super::marks::mark;
-use super::marks::opcode;
 
 // The six bytes of a word.
-pub fn six_bytes(word: Word) -> [u8; 6]
+pub(super) fn six_bytes(word: Word) -> [u8; 6]
     ensures { λ r. ⌜ r ≡ cell word ⌝ }
 {
     let letters = mark(word.opcode);
@@ -25,7 +25,7 @@ pub fn six_bytes(word: Word) -> [u8; 6]
 }
 
 // The word of the six bytes from `at` on, or none if the mark is unknown or an unused operand is not 0.
-pub fn word_at(bytes: &[u8], at: usize) -> Option<Word>
+pub(super) fn word_at(bytes: &[u8], at: usize) -> Option<Word>
     requires { ⌜ at + 6 ≤ length (now bytes) ⌝ }
     ensures { λ r. ⌜ r ≡ word-at (now (bytes .entry)) at ⌝ }
 {
@@ -46,7 +46,7 @@ pub fn word_at(bytes: &[u8], at: usize) -> Option<Word>
 }
 
 // The half-word of two bytes.
-pub fn half_at(bytes: &[u8], at: usize) -> u16
+pub(super) fn half_at(bytes: &[u8], at: usize) -> u16
     requires { ⌜ at + 2 ≤ length (now bytes) ⌝ }
     ensures { λ r. ⌜ r ≡ value (getD (now (bytes .entry)) at 0) (getD (now (bytes .entry)) (at + 1) 0) ⌝ }
 {

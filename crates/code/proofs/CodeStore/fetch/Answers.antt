@@ -1,4 +1,3 @@
-use mathlib.Core.Path.{sym}
 use Rattle.std.proofs.shelf.Tests.{true≢false}
 use Rattle.code.proofs.Storing.{store-at, store-past, store-within, store-goes-on}
 use Rattle.code.proofs.CodeStore.fetch.Needs as need

@@ -1,13 +1,11 @@
-use Prim.Native.Nat.{_-_, _<_, _≤_}
+use Prim.Native.Nat.{_<_, _≤_}
 use lib.ListN.{length, getD, take}
-use mathlib.Core.Bool.{true, false}
 use mathlib.Core.List.{map}
 use mathlib.Core.Path.{_≡_, sym, ap, _∙_}
 use native.Mathlib.Omega.{arith}
 use borrow.Author.Count.{below-more}
 use Rattle.std.proofs.shelf.Lists.{length-set}
 use Rattle.code.specs.declared.instructions.Instruction.the-variants.{Return}
-use Rattle.code.specs.Opcodes.{is-end}
 use Rattle.code.specs.Rules.{legal}
 use Rattle.code.specs.Words.{word-of, instruction-of}
 use Rattle.image.proofs.Composing.{decoded-some, decoded-none, composed-more, ill-ended, ill-placed, composed}
@@ -22,10 +20,11 @@ pub loop-k-again : need.loop-k-again
 loop-k-again c =
     let p = decoded-some (legal (c .args .count) (getD (c .args .words .now) (c .loop-k .k) (word-of Return))) (c .in-Some .instruction) (instruction-of (getD (c .args .words .now) (c .loop-k .k) (word-of Return))) (c .in-Some .ensures tt .value) in
     let inside : c .loop-k .k < length (c .loop-k .code) = omega arith in
-    let near : c .loop-k .k < length (c .args .words .now) = omega arith in
-    (below-more _ _ (c .loop-k .inv .0) (p .0),
-    composed-more (c .loop-k .code) (c .args .words .now) (c .loop-k .k) (c .in-Some .instruction) inside near (p .1) (c .loop-k .inv .1),
-    length-set (c .loop-k .code) (c .loop-k .k) (c .in-Some .instruction) ∙ c .loop-k .inv .2)
+    let near : c .loop-k .k < length (c .args .words .now) = omega arith in (
+      below-more _ _ (c .loop-k .inv .0) (p .0),
+      composed-more (c .loop-k .code) (c .args .words .now) (c .loop-k .k) (c .in-Some .instruction) inside near (p .1) (c .loop-k .inv .1),
+      length-set (c .loop-k .code) (c .loop-k .k) (c .in-Some .instruction) ∙ c .loop-k .inv .2,
+    )
 
 pub returns-in-rest : need.returns-in-rest
 returns-in-rest c =

@@ -9,5 +9,5 @@ returns c =
     record {
       value = c .load .ensures;
       back = store-back (c .load .result) (c .args .bytes .now) (all-from-getD (λ b. b < 256) (c .args .bytes .now) 0 (λ i h. omega (arith, c .typed .bytes i))) (c .load .ensures);
-      laws = (written-back, one-image)
+      laws = (written-back, one-image);
     }

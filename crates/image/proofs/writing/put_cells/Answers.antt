@@ -12,8 +12,7 @@ loop-k-holds c = cells-none (c .args .buffer .now)
 pub loop-k-again : need.loop-k-again
 loop-k-again c =
     let four : 4 ≤ length (c .args .buffer .now) = omega arith in
-    c .put .ensures
-    ∙ cells-more (c .loop-k .buffer) (c .args .buffer .now) (c .six-bytes .result) (c .args .code .now) (c .loop-k .k) (c .loop-k-test .taken) four (c .loop-k .inv) (c .six-bytes .ensures ∙ ap cell (c .word .ensures .value))
+    cells-more (c .loop-k .buffer) (c .args .buffer .now) (c .six-bytes .result) (c .put .last .buffer) (c .args .code .now) (c .loop-k .k) (c .loop-k-test .taken) four (c .loop-k .inv) (c .six-bytes .ensures ∙ ap cell (c .word .ensures .value)) (c .put .ensures)
 
 pub returns : need.returns
 returns c =

@@ -1,6 +1,6 @@
 use Prim.Native.Nat.{_<_, _≤_}
 use lib.ListN.{length, drop}
-use mathlib.Core.Path.{_≡_, ap, _∙_}
+use mathlib.Core.Path.{ap}
 use native.Mathlib.Omega.{arith}
 use Rattle.code.specs.Stores.{instructions}
 use Rattle.code.proofs.Storing.{store-sound}
@@ -15,7 +15,7 @@ returns-then-buffer-needed c =
     record {
       value = written-none (c .args .buffer .now) (instructions (c .args .store .now)) _ short (ap image-length (c .len-count .ensures .count));
       back = tt;
-      laws = (read-back, one-code)
+      laws = (read-back, one-code);
     }
 
 pub returns : need.returns
@@ -26,5 +26,5 @@ returns c =
     record {
       value = written-all (c .args .buffer .now) (c .put-cells .last .buffer) (instructions (c .args .store .now)) _ room size left;
       back = buffer-back _ (instructions (c .args .store .now)) (c .put-cells .last .buffer) (drop (image-length (length (instructions (c .args .store .now)))) (c .args .buffer .now)) (store-sound (c .args .store .now)) size left;
-      laws = (read-back, one-code)
+      laws = (read-back, one-code);
     }

@@ -12,5 +12,5 @@ returns-then-is-legal c =
     let good : legal (c .args .len) (c .args .self) ≡ true = sym (c .if-is-legal .ensures tt) in
     record {
       value = ap Some (c .instruction .ensures) ∙ sym (cond-true (legal (c .args .len) (c .args .self)) _ _ good);
-      back = ap word-of (c .instruction .ensures) ∙ word-back (c .args .len) (c .args .self) good
+      back = ap word-of (c .instruction .ensures) ∙ word-back (c .args .len) (c .args .self) good;
     }
