@@ -209,6 +209,8 @@ impl Word {
             first,
             second,
         } = self;
+        let (ticks, address) = (first, second);
+        let (x, y) = (Register::numbered(first), Register::numbered(second));
         match opcode {
             Opcode::Return => Instruction::Return,
             Opcode::Write => Instruction::Write { line: first as u8 },
@@ -220,53 +222,26 @@ impl Word {
             },
             Opcode::Release => Instruction::Release { task: first as u8 },
             Opcode::Enter => Instruction::Enter { mode: first as u8 },
-            Opcode::FutureWrite => Instruction::FutureWrite {
-                ticks: first,
-                address: second,
-            },
-            Opcode::FutureSwitch => Instruction::FutureSwitch {
-                ticks: first,
-                address: second,
-            },
-            Opcode::FutureRead => Instruction::FutureRead {
-                ticks: first,
-                address: second,
-            },
+            Opcode::FutureWrite => Instruction::FutureWrite { ticks, address },
+            Opcode::FutureSwitch => Instruction::FutureSwitch { ticks, address },
+            Opcode::FutureRead => Instruction::FutureRead { ticks, address },
             Opcode::FutureRelease => Instruction::FutureRelease {
                 task: first as u8,
-                address: second,
+                address,
             },
             Opcode::JumpIf => Instruction::JumpIf {
                 condition: first as u8,
-                address: second,
+                address,
             },
             Opcode::Jump => Instruction::Jump { address: first },
             Opcode::Call => Instruction::Call { address: first },
-            Opcode::Copy => Instruction::Copy {
-                to: Register::numbered(first),
-                from: Register::numbered(second),
-            },
-            Opcode::Push => Instruction::Push {
-                from: Register::numbered(first),
-            },
-            Opcode::Pop => Instruction::Pop {
-                to: Register::numbered(first),
-            },
-            Opcode::GetParent => Instruction::GetParent {
-                to: Register::numbered(first),
-                of: Register::numbered(second),
-            },
-            Opcode::SetParent => Instruction::SetParent {
-                of: Register::numbered(first),
-                to: Register::numbered(second),
-            },
-            Opcode::Adopt => Instruction::Adopt {
-                from: Register::numbered(first),
-                to: Register::numbered(second),
-            },
-            Opcode::Delete => Instruction::Delete {
-                beneath: Register::numbered(first),
-            },
+            Opcode::Copy => Instruction::Copy { to: x, from: y },
+            Opcode::Push => Instruction::Push { from: x },
+            Opcode::Pop => Instruction::Pop { to: x },
+            Opcode::GetParent => Instruction::GetParent { to: x, of: y },
+            Opcode::SetParent => Instruction::SetParent { of: x, to: y },
+            Opcode::Adopt => Instruction::Adopt { from: x, to: y },
+            Opcode::Delete => Instruction::Delete { beneath: x },
         }
     }
 }
@@ -278,55 +253,39 @@ impl Instruction {
         ensures back { λ r. ⌜ instruction-of r ≡ self ⌝ }
     {
         match self {
-            Instruction::Return => Word::new(Opcode::Return, 0, 0),
-            Instruction::Write { line } => Word::new(Opcode::Write, line as u16, 0),
-            Instruction::Read { line } => Word::new(Opcode::Read, line as u16, 0),
-            Instruction::Depend { line } => Word::new(Opcode::Depend, line as u16, 0),
-            Instruction::Expect { task, end } => Word::new(Opcode::Expect, task as u16, end),
-            Instruction::Release { task } => Word::new(Opcode::Release, task as u16, 0),
-            Instruction::Enter { mode } => Word::new(Opcode::Enter, mode as u16, 0),
-            Instruction::FutureWrite { ticks, address } => Word::new(
-                Opcode::FutureWrite,
-                ticks,
-                address,
-            ),
-            Instruction::FutureSwitch { ticks, address } => Word::new(
+            Self::Return => Word::new(Opcode::Return, 0, 0),
+            Self::Write { line } => Word::new(Opcode::Write, line as u16, 0),
+            Self::Read { line } => Word::new(Opcode::Read, line as u16, 0),
+            Self::Depend { line } => Word::new(Opcode::Depend, line as u16, 0),
+            Self::Expect { task, end } => Word::new(Opcode::Expect, task as u16, end),
+            Self::Release { task } => Word::new(Opcode::Release, task as u16, 0),
+            Self::Enter { mode } => Word::new(Opcode::Enter, mode as u16, 0),
+            Self::FutureWrite { ticks, address } => Word::new(Opcode::FutureWrite, ticks, address),
+            Self::FutureSwitch { ticks, address } => Word::new(
                 Opcode::FutureSwitch,
                 ticks,
                 address,
             ),
-            Instruction::FutureRead { ticks, address } => Word::new(
-                Opcode::FutureRead,
-                ticks,
-                address,
-            ),
-            Instruction::FutureRelease { task, address } => Word::new(
+            Self::FutureRead { ticks, address } => Word::new(Opcode::FutureRead, ticks, address),
+            Self::FutureRelease { task, address } => Word::new(
                 Opcode::FutureRelease,
                 task as u16,
                 address,
             ),
-            Instruction::JumpIf { condition, address } => Word::new(
+            Self::JumpIf { condition, address } => Word::new(
                 Opcode::JumpIf,
                 condition as u16,
                 address,
             ),
-            Instruction::Jump { address } => Word::new(Opcode::Jump, address, 0),
-            Instruction::Call { address } => Word::new(Opcode::Call, address, 0),
-            Instruction::Copy { to, from } => Word::new(Opcode::Copy, to.number(), from.number()),
-            Instruction::Push { from } => Word::new(Opcode::Push, from.number(), 0),
-            Instruction::Pop { to } => Word::new(Opcode::Pop, to.number(), 0),
-            Instruction::GetParent { to, of } => Word::new(
-                Opcode::GetParent,
-                to.number(),
-                of.number(),
-            ),
-            Instruction::SetParent { of, to } => Word::new(
-                Opcode::SetParent,
-                of.number(),
-                to.number(),
-            ),
-            Instruction::Adopt { from, to } => Word::new(Opcode::Adopt, from.number(), to.number()),
-            Instruction::Delete { beneath } => Word::new(Opcode::Delete, beneath.number(), 0),
+            Self::Jump { address } => Word::new(Opcode::Jump, address, 0),
+            Self::Call { address } => Word::new(Opcode::Call, address, 0),
+            Self::Copy { to, from } => Word::new(Opcode::Copy, to.number(), from.number()),
+            Self::Push { from } => Word::new(Opcode::Push, from.number(), 0),
+            Self::Pop { to } => Word::new(Opcode::Pop, to.number(), 0),
+            Self::GetParent { to, of } => Word::new(Opcode::GetParent, to.number(), of.number()),
+            Self::SetParent { of, to } => Word::new(Opcode::SetParent, of.number(), to.number()),
+            Self::Adopt { from, to } => Word::new(Opcode::Adopt, from.number(), to.number()),
+            Self::Delete { beneath } => Word::new(Opcode::Delete, beneath.number(), 0),
         }
     }
 }

@@ -41,7 +41,7 @@ impl CodeStore {
         ensures some { λ r. ⌜ 0 < r ⌝ }
         ensures few { λ r. ⌜ r ≤ 4096 ⌝ }
     {
-        self.len
+        self.as_slice().len()
     }
 
     // The instructions in order.

@@ -31,6 +31,7 @@ pub fn read(bytes: &[u8]) -> Result<CodeStore, Fault>
     load(bytes)
 }
 
+// Head and length, then every cell, then the rules of the code store.
 fn load(bytes: &[u8]) -> Result<CodeStore, Fault>
     ensures { λ r. ⌜ held r ≡ read-image (now (bytes .entry)) ⌝ }
 {
