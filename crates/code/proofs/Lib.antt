@@ -1,0 +1,4 @@
+pub mod Ranges
+pub mod Unmet
+pub mod Decoding
+pub mod Storing
