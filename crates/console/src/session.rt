@@ -113,7 +113,9 @@ impl Session {
                 let modules = tables.modules().len();
                 let modes = tables.modes().len();
                 let tasks = tables.tasks().len();
-                let lines = tables.reads().len() + tables.writes().len() + tables.dependencies().len();
+                let lines = tables.reads().len()
+                    + tables.writes().len()
+                    + tables.dependencies().len();
                 let switches = tables.switches().len();
                 println!(
                     rt,

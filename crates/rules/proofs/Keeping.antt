@@ -56,13 +56,12 @@ below-ltb m n h = grind (arith, tells)
 not-rivals :
     (x y : Bool) (a b c d : ℕ) → x ≡ true → y ≡ true → ((x && y && (not (eqb c d) || eqb a b)) ≡ true → ⊥) → (a ≡ b → ⊥) × (c ≡ d)
 not-rivals x y a b c d e f peace =
-    let both = and-from x y e f in
-    (
-        λ m. peace (and-from (x && y) (not (eqb c d) || eqb a b) both (or-right (not (eqb c d)) (eqb a b) (eq-eqb a b m))),
-        elim (cases-bool (eqb c d)) [
-          | inl t ↦ eqb-true c d t
-          | inr t ↦ absurd (peace (and-from (x && y) (not (eqb c d) || eqb a b) both (or-left (not (eqb c d)) (eqb a b) (ap not t))))
-        ],
+    let both = and-from x y e f in (
+      λ m. peace (and-from (x && y) (not (eqb c d) || eqb a b) both (or-right (not (eqb c d)) (eqb a b) (eq-eqb a b m))),
+      elim (cases-bool (eqb c d)) [
+        | inl t ↦ eqb-true c d t
+        | inr t ↦ absurd (peace (and-from (x && y) (not (eqb c d) || eqb a b) both (or-left (not (eqb c d)) (eqb a b) (ap not t))))
+      ],
     )
 
 none-is : (o : Option ℕ) → is-none o ≡ true → o ≡ None
@@ -123,12 +122,11 @@ module _ (s : Station) (k : Keeps s) where
 
   refined : (t o : ℕ) (parent : Option ℕ) → refines s t o parent ≡ true → (p : ℕ) × (parent ≡ Some p) × Refined t o p
   refined t o None e = absurd (let z : _≡_ {A = ℕ} 0 1 = cc in omega arith)
-  refined t o (Some p) e =
-      (
-          p,
-          refl,
-          all-of-7 (is-abstract (task-at s p .form)) (eqb (mode-of s p) o) (leb (opening s t) (opening s p)) (leb (end s p) (end s t)) (writes-within s t p) (depends-within s t p) (apart-from-siblings s t p) e,
-      )
+  refined t o (Some p) e = (
+    p,
+    refl,
+    all-of-7 (is-abstract (task-at s p .form)) (eqb (mode-of s p) o) (leb (opening s t) (opening s p)) (leb (end s p) (end s t)) (writes-within s t p) (depends-within s t p) (apart-from-siblings s t p) e,
+  )
 
   refining : (t o : ℕ) → t < length (s .tasks) → owner-of s t ≡ Some o → (p : ℕ) × (task-at s t .parent ≡ Some p) × Refined t o p
   refining t o h e = refined t o (task-at s t .parent) (sym (ap (has-its-parent s t) e) ∙ kept-at s k Refinement (Task t) h)
@@ -177,8 +175,8 @@ module _ (s : Station) (k : Keeps s) where
       let low : ltb (write-at s i .task) u ≡ true = ap (λ y. ltb y u) ti ∙ below-ltb t u l in
       let rival : rivals s (write-at s i .task) u ≡ true = ap (λ y. rivals s y u) ti ∙ r in
       let contest : contested s u c ≡ true =
-          any-at (λ y. eqb (write-at s y .communicator) c && ltb (write-at s y .task) u && rivals s (write-at s y .task) u) i (length (s .writes)) (wt .1)
-          (and-from (eqb (write-at s i .communicator) c && ltb (write-at s i .task) u) (rivals s (write-at s i .task) u) (and-from (eqb (write-at s i .communicator) c) (ltb (write-at s i .task) u) (a .1) low) rival) in
+      any-at (λ y. eqb (write-at s y .communicator) c && ltb (write-at s y .task) u && rivals s (write-at s y .task) u) i (length (s .writes)) (wt .1)
+      (and-from (eqb (write-at s i .communicator) c && ltb (write-at s i .task) u) (rivals s (write-at s i .task) u) (and-from (eqb (write-at s i .communicator) c) (ltb (write-at s i .task) u) (a .1) low) rival) in
       any-at (λ y. eqb (write-at s y .task) u && contested s u (write-at s y .communicator)) j (length (s .writes)) (wu .1)
       (and-from (eqb (write-at s j .task) u) (contested s u (write-at s j .communicator)) (b .0) (ap (contested s u) cj ∙ contest))
 

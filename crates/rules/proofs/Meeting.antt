@@ -47,8 +47,8 @@ top-none s i l e zero d = meetings-none s i (Some d)
 top-none s i l e (suc n) d =
     let a = meetings-step s i n (Some d) l in
     let b =
-        total-none (of-owner s (Some d)) (inner s i n) (length (s .modules))
-        (λ m _. total-none (λ d. eqb (mode-at s d .home) m) (λ d. meetings s i n (Some d)) (length (s .modes)) (λ k _. top-none s i l e n k)) in
+    total-none (of-owner s (Some d)) (inner s i n) (length (s .modules))
+    (λ m _. total-none (λ d. eqb (mode-at s d .home) m) (λ d. meetings s i n (Some d)) (length (s .modes)) (λ k _. top-none s i l e n k)) in
     let c : One (of-owner s (Some d) i) ≡ 0 = ap (λ x. One (same-owner x (Some d))) e in
     omega arith
 
@@ -56,8 +56,8 @@ top-once : (s : Station) (i n : ℕ) → i < length (s .modules) → module-at s
 top-once s i n l e =
     let a = meetings-step s i n None l in
     let b =
-        total-none (of-owner s None) (inner s i n) (length (s .modules))
-        (λ m _. total-none (λ d. eqb (mode-at s d .home) m) (λ d. meetings s i n (Some d)) (length (s .modes)) (λ k _. top-none s i l e n k)) in
+    total-none (of-owner s None) (inner s i n) (length (s .modules))
+    (λ m _. total-none (λ d. eqb (mode-at s d .home) m) (λ d. meetings s i n (Some d)) (length (s .modes)) (λ k _. top-none s i l e n k)) in
     let c : One (of-owner s None i) ≡ 1 = ap (λ x. One (same-owner x None)) e in
     omega arith
 

@@ -71,9 +71,9 @@ module _ (s : Station) (f : Family s) (active : ℕ → Option ℕ) (conf : Conf
       elim (cases-order t u) [
         | inl e ↦ e
         | inr o ↦ elim o [
-            | inl l ↦ let q = a l in absurd (q .0 (one-mode t u w x (q .1)))
-            | inr l ↦ let q = b l in absurd (q .0 (one-mode u t x w (q .1)))
-          ]
+          | inl l ↦ let q = a l in absurd (q .0 (one-mode t u w x (q .1)))
+          | inr l ↦ let q = b l in absurd (q .0 (one-mode u t x w (q .1)))
+        ]
       ]
 
   siblings : (t u p : ℕ) → Writer t → Writer u → task-at s t .parent ≡ Some p → task-at s u .parent ≡ Some p → t ≡ u
@@ -96,7 +96,7 @@ module _ (s : Station) (f : Family s) (active : ℕ → Option ℕ) (conf : Conf
             let up : active (mode-at s (o .0) .home) ≡ Some (o .0) = conf (module-of s t) (mode-of s t) (o .0) (f .placed t (w .inside)) (w .awake) (o .1) in
             let awake : Active s active (q .0) = ap (λ m. active (mode-at s m .home)) (q .3) ∙ up ∙ ap Some (sym (q .3)) in
             let got : Writer (q .0) × (module-of s (q .0) < module-of s t) × (is-abstract (task-at s (q .0) .form) ≡ true) =
-                (record { inside = q .2; awake = awake; writes = f .parent-writes t (q .0) c (w .inside) (q .1) (w .writes) }, q .5, q .4) in
+            (record { inside = q .2; awake = awake; writes = f .parent-writes t (q .0) c (w .inside) (q .1) (w .writes) }, q .5, q .4) in
             subst (λ x. Writer x × (module-of s x < module-of s t) × (is-abstract (task-at s x .form) ≡ true)) same got
       ]
 
@@ -120,20 +120,20 @@ module _ (s : Station) (f : Family s) (active : ℕ → Option ℕ) (conf : Conf
             elim (comparable n (q .0) j (omega (arith, up .1)) (up .0) x) [
               | inr a ↦ inr (higher i (q .0) (q .1) a)
               | inl a ↦ elim (towards (q .0) j a x) [
-                  | inl m ↦ inr (higher i (q .0) (q .1) (subst (λ y. Above s j y) (sym m) here))
-                  | inr k ↦ inl (subst (λ y. Above s y j) (sym (siblings i (k .0) (q .0) w (k .3) (q .1) (k .1))) (k .2))
-                ]
+                | inl m ↦ inr (higher i (q .0) (q .1) (subst (λ y. Above s j y) (sym m) here))
+                | inr k ↦ inl (subst (λ y. Above s y j) (sym (siblings i (k .0) (q .0) w (k .3) (q .1) (k .1))) (k .2))
+              ]
             ]
         | inl t ↦ elim (owner-cases (owner-of s j)) [
-            | inl u ↦ inl (subst (λ y. Above s i y) (tops-same i j w x t u) here)
-            | inr o ↦
-                let q = f .parent j (o .0) (x .inside) (o .1) in
-                let up = lifted j (q .0) x (q .1) in
-                elim (comparable n i (q .0) (omega (arith, up .1)) w (up .0)) [
-                  | inl a ↦ inl (higher j (q .0) (q .1) a)
-                  | inr a ↦ inl (higher j (q .0) (q .1) (topmost (q .0) i (f .no-parent i (w .inside) t) a))
-                ]
-          ]
+          | inl u ↦ inl (subst (λ y. Above s i y) (tops-same i j w x t u) here)
+          | inr o ↦
+              let q = f .parent j (o .0) (x .inside) (o .1) in
+              let up = lifted j (q .0) x (q .1) in
+              elim (comparable n i (q .0) (omega (arith, up .1)) w (up .0)) [
+                | inl a ↦ inl (higher j (q .0) (q .1) a)
+                | inr a ↦ inl (higher j (q .0) (q .1) (topmost (q .0) i (f .no-parent i (w .inside) t) a))
+              ]
+        ]
       ]
     where
       topmost : (q i : ℕ) → task-at s i .parent ≡ None → Above s q i → Above s i q

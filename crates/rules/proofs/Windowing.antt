@@ -48,9 +48,9 @@ opening-final s zero t h k = absurd (omega arith)
 opening-final s (suc n) t h k =
     let v = opening-by s (openings-to s n) n in
     elim (cases-eq t n) [
-        inl e ↦
-            let inside : n < length (openings-to s n) = omega (arith, openings-long s n) in
-            ap (λ x. getD (set (openings-to s n) n v) x 0) e ∙ getD-set-same (openings-to s n) n v 0 inside ∙ ap (λ x. opening-by s (openings-to s x) x) (sym e)
+      | inl e ↦
+          let inside : n < length (openings-to s n) = omega (arith, openings-long s n) in
+          ap (λ x. getD (set (openings-to s n) n v) x 0) e ∙ getD-set-same (openings-to s n) n v 0 inside ∙ ap (λ x. opening-by s (openings-to s x) x) (sym e)
       | inr ne ↦ getD-set-other (openings-to s n) n t v 0 ne ∙ opening-final s n t (omega arith) (omega arith)
     ]
 
@@ -64,13 +64,13 @@ end-final s (suc n) t h l k m =
     let at = length (s .tasks) - suc n in
     let v = end-by s (ends-to s n) at in
     elim (cases-eq t at) [
-        inl e ↦
-            let inside : at < length (ends-to s n) = omega (arith, ends-long s n) in
-            let step : length (s .tasks) - suc t ≡ n = omega arith in
-            ap (λ x. getD (set (ends-to s n) at v) x 0) e
-            ∙ getD-set-same (ends-to s n) at v 0 inside
-            ∙ ap (end-by s (ends-to s n)) (sym e)
-            ∙ ap (λ x. end-by s (ends-to s x) t) (sym step)
+      | inl e ↦
+          let inside : at < length (ends-to s n) = omega (arith, ends-long s n) in
+          let step : length (s .tasks) - suc t ≡ n = omega arith in
+          ap (λ x. getD (set (ends-to s n) at v) x 0) e
+          ∙ getD-set-same (ends-to s n) at v 0 inside
+          ∙ ap (end-by s (ends-to s n)) (sym e)
+          ∙ ap (λ x. end-by s (ends-to s x) t) (sym step)
       | inr ne ↦ getD-set-other (ends-to s n) at t v 0 ne ∙ end-final s n t h (omega arith) (omega arith) m
     ]
 
@@ -84,12 +84,12 @@ pub opening-is :
 opening-is s up few t h =
     opening-final s (length (s .tasks)) t h few
     ∙ largest-same (λ j. eqb (dependency-at s j .to) t) (λ j. getD (openings-to s t) (dependency-at s j .task) 0) (λ j. opening s (dependency-at s j .task)) (release-offset s t) (length (s .dependencies))
-        (λ j l e.
-            let u = dependency-at s j .task in
-            let a = up j l in
-            let to = eqb-true (dependency-at s j .to) t e in
-            let low : u < t = omega arith in
-            opening-final s t u low (omega arith) ∙ sym (opening-final s (length (s .tasks)) u (omega arith) few))
+    (λ j l e.
+    let u = dependency-at s j .task in
+    let a = up j l in
+    let to = eqb-true (dependency-at s j .to) t e in
+    let low : u < t = omega arith in
+    opening-final s t u low (omega arith) ∙ sym (opening-final s (length (s .tasks)) u (omega arith) few))
 
 pub end-is :
     (s : Station) → Ascend s → length (s .tasks) ≤ 64 → (t : ℕ) → t < length (s .tasks)
@@ -98,9 +98,9 @@ end-is s up few t h =
     let n = length (s .tasks) in
     end-final s n t h (omega arith) (omega arith) few
     ∙ smallest-same (λ j. eqb (dependency-at s j .task) t) (λ j. getD (ends-to s (n - suc t)) (dependency-at s j .to) 0) (λ j. end s (dependency-at s j .to)) (write-offset s t) (length (s .dependencies))
-        (λ j l e.
-            let u = dependency-at s j .to in
-            let a = up j l in
-            let from = eqb-true (dependency-at s j .task) t e in
-            let high : t < u = omega arith in
-            end-final s (n - suc t) u (a .1) (omega (arith, a .1)) (omega arith) few ∙ sym (end-final s n u (a .1) (omega arith) (omega arith) few))
+    (λ j l e.
+    let u = dependency-at s j .to in
+    let a = up j l in
+    let from = eqb-true (dependency-at s j .task) t e in
+    let high : t < u = omega arith in
+    end-final s (n - suc t) u (a .1) (omega (arith, a .1)) (omega arith) few ∙ sym (end-final s n u (a .1) (omega arith) (omega arith) few))

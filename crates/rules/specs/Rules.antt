@@ -252,9 +252,9 @@ abbrev pub written-before : Station → ℕ → Bool
 written-before s j =
     any
     (λ k.
-        eqb (write-at s k .task) (write-at s j .task)
-        && eqb (write-at s k .communicator) (write-at s j .communicator)
-        && eqb (write-at s k .offset) (write-at s j .offset))
+    eqb (write-at s k .task) (write-at s j .task)
+    && eqb (write-at s k .communicator) (write-at s j .communicator)
+    && eqb (write-at s k .offset) (write-at s j .offset))
     j
 
 -- A task writes one communicator twice at one offset.

@@ -76,7 +76,8 @@ pub(crate) fn well_fed(tables: &Tables, at: Place) -> bool
     match at {
         Place::Task(i) => {
             let x = task(tables, i);
-            each_fed(tables, i, x.inputs) && (is_abstract(x.form) || !depends_on_abstract(tables, i))
+            each_fed(tables, i, x.inputs)
+                && (is_abstract(x.form) || !depends_on_abstract(tables, i))
         }
         Place::Dependency(i) => {
             let x = dependency(tables, i);

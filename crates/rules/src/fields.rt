@@ -42,7 +42,8 @@ pub(crate) fn fields_fit(tables: &Tables, at: Place) -> bool
         }
         Place::Module(i) => {
             let x = module(tables, i);
-            none_or_below(x.owner, tables.modes().len()) && (x.start as usize) < tables.modes().len()
+            none_or_below(x.owner, tables.modes().len())
+                && (x.start as usize) < tables.modes().len()
         }
         Place::Mode(i) => {
             let x = mode(tables, i);

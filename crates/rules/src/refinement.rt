@@ -81,7 +81,9 @@ fn depends_within(tables: &Tables, t: usize, p: u8) -> bool
 {
     for j in 0..tables.dependencies().len() {
         let x = dependency(tables, j);
-        if x.to as usize == t && !depends_on_parent(tables, p, task(tables, x.task as usize).parent) {
+        if x.to as usize == t
+            && !depends_on_parent(tables, p, task(tables, x.task as usize).parent)
+        {
             return false;
         }
     }
@@ -93,7 +95,8 @@ fn apart(tables: &Tables, u: usize, t: usize, p: u8) -> bool
     ensures { λ r. ⌜ r ≡ apart-one (station (now (tables .entry))) u t p ⌝ }
 {
     !is_number(task(tables, u).parent, p as usize)
-        || (task(tables, u).mode != task(tables, t).mode && module_of(tables, u) == module_of(tables, t))
+        || (task(tables, u).mode != task(tables, t).mode
+            && module_of(tables, u) == module_of(tables, t))
 }
 
 fn apart_from_siblings(tables: &Tables, t: usize, p: u8) -> bool

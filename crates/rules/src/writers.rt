@@ -10,7 +10,8 @@ fn are_rivals(tables: &Tables, t: usize, u: usize) -> bool
 {
     owner_of(tables, t).is_none()
         && owner_of(tables, u).is_none()
-        && (module_of(tables, t) != module_of(tables, u) || task(tables, t).mode == task(tables, u).mode)
+        && (module_of(tables, t) != module_of(tables, u)
+            || task(tables, t).mode == task(tables, u).mode)
 }
 
 // An earlier rival of a task writes a communicator.

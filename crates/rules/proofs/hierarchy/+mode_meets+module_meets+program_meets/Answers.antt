@@ -20,7 +20,7 @@ pub module-meets-returns-then-mode-meets : need.module-meets-returns-then-mode-m
 module-meets-returns-then-mode-meets t c =
     let s = station (c .args .tables .now) in
     let found : true ≡ any (λ d. eqb (mode-at s d .home) (c .args .m) && meets s (c .args .target) (c .args .levels - 1) (Some d)) (length (s .modes)) =
-        any-stop _ _ _ (c .loop-d .inv) (search needs) (search needs) in
+    any-stop _ _ _ (c .loop-d .inv) (search needs) (search needs) in
     search needs
 
 pub module-meets-loop-d-again : need.module-meets-loop-d-again
