@@ -14,6 +14,8 @@ use std::fs;
 use std::io;
 use tables::Record;
 use tables::Tables;
+use words::Holdings;
+use words::HoldingsDisplay;
 use words::Refused;
 use words::RefusedDisplay;
 use words::Row;
@@ -108,19 +110,8 @@ impl Session {
     fn judge(&self, rt: &LibcRuntime) -> io::Result<()> {
         match read(self.bytes.as_slice()) {
             Ok(accepted) => {
-                let tables = accepted.tables();
-                let communicators = tables.communicators().len();
-                let modules = tables.modules().len();
-                let modes = tables.modes().len();
-                let tasks = tables.tasks().len();
-                let lines = tables.reads().len()
-                    + tables.writes().len()
-                    + tables.dependencies().len();
-                let switches = tables.switches().len();
-                println!(
-                    rt,
-                    "accepted: {communicators} communicators, {modules} modules, {modes} modes, {tasks} tasks, {lines} lines, {switches} switches"
-                )
+                let holdings = Holdings(accepted.tables());
+                println!(rt, "accepted: {holdings}")
             }
             Err(fault) => {
                 let refused = Refused(fault);

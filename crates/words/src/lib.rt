@@ -1,7 +1,10 @@
 // Records and refusals as lines of text.
+mod counts;
 mod refusals;
 mod rows;
 
+pub use counts::Holdings;
+pub use counts::HoldingsDisplay;
 pub use refusals::Refused;
 pub use refusals::RefusedDisplay;
 pub use rows::Row;
