@@ -33,7 +33,8 @@ fn tables(rt: &LibcRuntime, name: &str) -> io::Result<()> {
 
 // Writes and reads the largest image again and again; how many bytes and instructions that were in all.
 fn images(rt: &LibcRuntime) -> io::Result<()> {
-    let Ok(store) = CodeStore::new([Instruction::Return; MOST_INSTRUCTIONS], MOST_INSTRUCTIONS) else {
+    let Ok(store) = CodeStore::new([Instruction::Return; MOST_INSTRUCTIONS], MOST_INSTRUCTIONS)
+    else {
         return println!(rt, "no code");
     };
     let mut buffer = vec![in rt.alloc(); 0u8; IMAGE_BYTES]?;
@@ -53,7 +54,10 @@ fn images(rt: &LibcRuntime) -> io::Result<()> {
         }
     }
     told(rt, "image read", start)?;
-    println!(rt, "images: {written} bytes written, {read} instructions read")
+    println!(
+        rt,
+        "images: {written} bytes written, {read} instructions read"
+    )
 }
 
 fn main(rt: LibcRuntime) -> io::Result<()> {

@@ -18,7 +18,7 @@ fn is_mark(word: &[u8], kind: Kind) -> bool
     word.len() == 2 && word[0] == letters[0] && word[1] == letters[1]
 }
 
-pub fn kind_named(word: &str) -> Option<Kind>
+pub(crate) fn kind_named(word: &str) -> Option<Kind>
     ensures { λ r. ⌜ r ≡ kind-named (now (word .entry)) ⌝ }
 {
     let letters = word.as_bytes();
@@ -168,7 +168,7 @@ fn switch(words: &mut SplitWhitespace<'_>) -> Option<Record>
 }
 
 // The record of a kind that the words say from first to last.
-pub fn fields(kind: Kind, words: &mut SplitWhitespace<'_>) -> Option<Record>
+pub(crate) fn fields(kind: Kind, words: &mut SplitWhitespace<'_>) -> Option<Record>
     ensures { λ r. ⌜ found r Plain-fields ⌝ }
 {
     match kind {

@@ -33,7 +33,7 @@ fn pair(high: u8, low: u8) -> Option<u8>
 }
 
 // The bytes that a text spells, two digits a byte.
-pub fn bytes_of(heap: Global, text: &str) -> Result<Vec<u8>, Misuse>
+pub(crate) fn bytes_of(heap: Global, text: &str) -> Result<Vec<u8>, Misuse>
     ensures { λ r. ⌜ Cases r (λ v. bytes-spelt (now (text .entry)) ≡ Some (vec-items v)) (λ why. Spells-none (now (text .entry)) why) ⌝ }
 {
     let letters = text.as_bytes();

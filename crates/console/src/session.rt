@@ -26,7 +26,7 @@ const LONGEST: usize = 9;
 
 // The bytes gathered so far.
 #[derive(Drop)]
-pub struct Session {
+pub(crate) struct Session {
     bytes: Vec<u8>,
 }
 
@@ -64,7 +64,7 @@ fn list(rt: &LibcRuntime, bytes: &[u8], count: usize) -> io::Result<()> {
 }
 
 impl Session {
-    pub fn new(heap: Global) -> Session {
+    pub(crate) fn new(heap: Global) -> Session {
         Session {
             bytes: Vec::new(heap),
         }
@@ -138,7 +138,7 @@ impl Session {
     }
 
     // Does what a line asks for, or says what was expected.
-    pub fn obey(&mut self, rt: &LibcRuntime, line: &str) -> io::Result<()> {
+    pub(crate) fn obey(&mut self, rt: &LibcRuntime, line: &str) -> io::Result<()> {
         match parse(rt.alloc(), line) {
             Ok(command) => self.carry_out(rt, command),
             Err(misuse) => println!(rt, "{misuse}"),

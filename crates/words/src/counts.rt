@@ -5,6 +5,7 @@ use tables::Kind;
 use tables::Tables;
 
 // The tables whose records are counted.
+#[derive(Clone, Copy)]
 pub struct Holdings<'a>(pub &'a Tables);
 
 // A number of records of a kind.

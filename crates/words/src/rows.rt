@@ -129,7 +129,7 @@ fn switch<W: fmt::Write>(s: Switch, f: &mut fmt::Formatter<W>) -> fmt::Result {
     write!(f, "mode {mode} to mode {target} on condition {condition}")
 }
 
-pub fn kind_word(kind: Kind) -> &'static str {
+pub(crate) fn kind_word(kind: Kind) -> &'static str {
     match kind {
         Kind::Communicators => "communicator",
         Kind::Modules => "module",
