@@ -20,7 +20,7 @@ use Rattle.rules.proofs.Racing.{Family, races-none, owner-cases, never, same-n
 use Rattle.rules.proofs.Reaching.{Named, met-reaches}
 use Rattle.rules.proofs.Searching.{any-at, any-some, every-all}
 use Rattle.rules.proofs.Windowing.{Ascend, opening-is, end-is}
-use Rattle.rules.specs.Levels.{meets}
+use Rattle.rules.specs.Levels.{meets, Over, itself, owner}
 use Rattle.rules.specs.Lookups.{module-at, mode-at, task-at, write-at, dependency-at, is-number, is-none, is-abstract, mode-of, module-of, owner-of}
 use Rattle.rules.specs.Promises.{Laws}
 use Rattle.rules.specs.Rules.{none-or-below, owner-before, period-of-owner, has-its-parent, refines, writes-within, depends-within, apart-from-siblings, apart-one, writes-to, rivals, contested, clashes, writes-twice, listed-form}
@@ -208,6 +208,15 @@ module _ (s : Station) (k : Keeps s) where
         tops = tops-apart;
       }
 
+  owner-period : (d o : ℕ) → d < length (s .modes) → module-at s (mode-at s d .home) .owner ≡ Some o → mode-at s d .period ≡ mode-at s o .period
+  owner-period d o h e =
+      eqb-true (mode-at s d .period) (mode-at s o .period)
+      (sym (ap (period-of-owner s (mode-at s d .period)) e) ∙ kept-at s k Timing (Mode d) h)
+
+  period-over : (e d : ℕ) → Over s e d → mode-at s d .period ≡ mode-at s e .period
+  period-over e d itself = refl
+  period-over e d (owner d′ o h g a) = owner-period d o h g ∙ period-over e o a
+
   dependency-ascends :
       (j : ℕ) → j < length (s .dependencies)
       → (mode-of s (dependency-at s j .task) ≡ mode-of s (dependency-at s j .to)) × (dependency-at s j .task < dependency-at s j .to)
@@ -233,10 +242,8 @@ module _ (s : Station) (k : Keeps s) where
         owner-smaller = λ i o h e. (named .owner-there i o h e, owner-lower i o h e);
         level-at-most-8 = λ i h. met-reaches s 8 None i (ordered i h .2);
         met-once = λ i h. reached-once s named 8 i h (met-reaches s 8 None i (ordered i h .2));
-        owner-period =
-            λ d o h e.
-            eqb-true (mode-at s d .period) (mode-at s o .period)
-            (sym (ap (period-of-owner s (mode-at s d .period)) e) ∙ kept-at s k Timing (Mode d) h);
+        owner-period = owner-period;
+        period-over = period-over;
         opening-below-end = λ t h. ltb-true (opening s t) (end s t) (kept-at s k Window (Task t) h);
         dependencies-ascend = dependency-ascends;
         opening-is = opening-is s ascend (few Tasks);

@@ -44,3 +44,8 @@ meetings s i (suc n) o =
     total (λ m. same-owner (module-at s m .owner) o)
     (λ m. cond (eqb m i) 1 0 + total (λ d. eqb (mode-at s d .home) m) (λ d. meetings s i n (Some d)) (length (s .modes)))
     (length (s .modules))
+
+-- A mode, or the owner of its module, and so on up: the modes above a mode.
+pub data Over (s : Station) (e : ℕ) : ℕ → Type 0 where
+  itself : Over s e e
+  owner : (d o : ℕ) → d < length (s .modes) → module-at s (mode-at s d .home) .owner ≡ Some o → Over s e o → Over s e d

@@ -8,7 +8,7 @@ use Rattle.std.specs.declared.option.Option.{Option}
 use Rattle.std.specs.declared.option.Option.the-variants.{Some, None}
 use Rattle.tables.specs.Stations.{Station}
 use Rattle.rules.specs.Activity.{Race-free}
-use Rattle.rules.specs.Levels.{Level, meetings}
+use Rattle.rules.specs.Levels.{Level, meetings, Over}
 use Rattle.rules.specs.Lookups.{module-at, mode-at, task-at, dependency-at, mode-of, module-of}
 use Rattle.rules.specs.Searches.{largest, smallest}
 use Rattle.rules.specs.Windows.{release-offset, write-offset, opening, end}
@@ -24,6 +24,8 @@ pub record Laws (s : Station) : Type 0 where
   pub met-once : (i : ℕ) → i < length (s .modules) → meetings s i 8 None ≡ 1
   -- A mode of an owned module has the period of the owner.
   pub owner-period : (d o : ℕ) → d < length (s .modes) → module-at s (mode-at s d .home) .owner ≡ Some o → mode-at s d .period ≡ mode-at s o .period
+  -- So it has the period of every mode above it, up to that of its top module.
+  pub period-over : (e d : ℕ) → Over s e d → mode-at s d .period ≡ mode-at s e .period
   -- A task's opening is the largest of its release offset and the openings of the tasks that it depends on.
   pub opening-is :
       (t : ℕ) → t < length (s .tasks)
