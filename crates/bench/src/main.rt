@@ -1,4 +1,6 @@
 // How long reading takes: times to standard error, a checksum of what was read to standard output.
+#![tactic(auto)]
+
 use code::{CodeStore, Instruction, MOST_INSTRUCTIONS};
 use std::time::Instant;
 use std::{fs, io};

@@ -1,4 +1,6 @@
 // Two bodies for the bench: the law body and the tell-tale body.
+#![tactic(auto)]
+
 mod lawful;
 mod telling;
 

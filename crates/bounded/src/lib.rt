@@ -1,4 +1,6 @@
 // A list of at most N items, kept in memory of its own.
+#![tactic(auto)]
+
 ghost use Rattle.std.specs.Prelude.{◌≡◌, ◌≤◌, length};
 
 mod list;

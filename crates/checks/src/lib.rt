@@ -1,4 +1,6 @@
 // Examples that run: what the parts below do on small inputs.
+#![tactic(auto)]
+
 #[cfg(test)]
 mod lists;
 #[cfg(test)]

@@ -1,4 +1,6 @@
 // The instructions of the machine, and the store that holds a code of them.
+#![tactic(auto)]
+
 ghost use Rattle.std.specs.Prelude.{◌≡◌, ℕ, ◌-◌, ◌<◌, ◌≤◌, true, length, slice_index_or};
 ghost use Rattle.code.specs.declared.instructions.Instruction.TheVariants.{Return};
 ghost use Rattle.code.specs.Opcodes.{is_end};

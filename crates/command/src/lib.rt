@@ -1,4 +1,6 @@
 // The console's commands, one a line.
+#![tactic(auto)]
+
 use tables::{Kind, Record};
 
 mod fields;

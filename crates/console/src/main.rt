@@ -1,4 +1,6 @@
 // The console: commands from the files that are named, or from standard input.
+#![tactic(auto)]
+
 mod session;
 
 use session::Session;

@@ -1,4 +1,6 @@
 // Every refusal of the product, as the one type that all parts hand up.
+#![tactic(auto)]
+
 ghost use Rattle.std.specs.Prelude.{◌≡◌};
 ghost use Rattle.fault.specs.Refusals.{number, told};
 

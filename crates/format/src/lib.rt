@@ -1,4 +1,6 @@
 // The bytes of a table record: two letters that tell its kind, then its fields, each number with its larger part first.
+#![tactic(auto)]
+
 mod read;
 mod write;
 

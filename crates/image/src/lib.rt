@@ -1,4 +1,6 @@
 // The image of a code: its bytes, as they are sent and kept.
+#![tactic(auto)]
+
 mod cells;
 mod marks;
 mod reading;

@@ -1,4 +1,6 @@
 // The levels of modules.
+#![tactic(auto)]
+
 mod walk;
 
 pub use walk::program_meets;

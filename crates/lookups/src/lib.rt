@@ -1,4 +1,6 @@
 // Look-ups in tables that answer for every number.
+#![tactic(auto)]
+
 mod records;
 
 pub use records::{

@@ -1,4 +1,6 @@
 // What a plant and a body are to the machine.
+#![tactic(auto)]
+
 ghost use Rattle.std.specs.Prelude.{ℕ, ◌<◌, ◌≤◌, eqb, ℤ, pos, Bool, cond, List, [], ◌∷◌, ◌≡◌};
 ghost use Rattle.plant.specs.Acts.{Act, Drive, Pass, Answers};
 

@@ -1,4 +1,6 @@
 // From bytes to tables: a cursor that hands out record after record, the walk that stores them, and the tables that keep every rule.
+#![tactic(auto)]
+
 ghost use Rattle.std.specs.Prelude.{◌+◌, ◌^◌, ◌<◌, length};
 ghost use Rattle.rules.specs.Verdicts.{Keeps};
 ghost use Rattle.tables.specs.Stations.{station};

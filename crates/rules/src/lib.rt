@@ -1,4 +1,6 @@
 // The rules that tables are held against, and the verdict on them.
+#![tactic(auto)]
+
 mod feeding;
 mod fields;
 mod hierarchy;

@@ -1,4 +1,6 @@
 // Examples that run: the stands, the bodies, and what is due, at their edges.
+#![tactic(auto)]
+
 #[cfg(test)]
 mod bodies_at_edges;
 #[cfg(test)]

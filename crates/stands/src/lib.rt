@@ -1,4 +1,6 @@
 // Two plants for the bench: the tank stand and the loop-back rack.
+#![tactic(auto)]
+
 ghost use Rattle.std.specs.Prelude.{◌≡◌, length};
 
 mod filling;

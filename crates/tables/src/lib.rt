@@ -1,4 +1,6 @@
 // The records of a station's tables, and the store that holds them.
+#![tactic(auto)]
+
 use bounded::Bounded;
 
 pub mod records;

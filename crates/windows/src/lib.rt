@@ -1,4 +1,6 @@
 // When a task may be out: its release offset, its opening and its end.
+#![tactic(auto)]
+
 mod opens;
 
 pub use opens::release_offset;

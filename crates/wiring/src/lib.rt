@@ -1,4 +1,6 @@
 // Sensing and driving what is due, over any plant.
+#![tactic(auto)]
+
 ghost use Rattle.std.specs.Prelude.{◌≡◌, ℕ, List, [], ◌++◌};
 ghost use Rattle.plant.specs.Acts.{Act};
 ghost use Rattle.wiring.specs.Due.{communicator_at, is_instant, due_sensor, due_actuator, sensed, drives};

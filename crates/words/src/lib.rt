@@ -1,4 +1,6 @@
 // Records and refusals as lines of text.
+#![tactic(auto)]
+
 mod counts;
 mod refusals;
 mod rows;

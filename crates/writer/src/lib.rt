@@ -1,4 +1,6 @@
 // From tables to bytes.
+#![tactic(auto)]
+
 ghost use Rattle.std.specs.Prelude.{◌≡◌};
 ghost use Rattle.bounded.specs.Items.{items};
 ghost use Rattle.format.specs.Records.{station_bytes};

@@ -11,7 +11,7 @@ use Rattle.tables.specs.Stations.{station, rows}
 use Rattle.writer.proofs.Reading.{station_again}
 use Rattle.writer.proofs.Room.{front_more, turn_adds, there_is}
 use Rattle.writer.proofs.write.Goals as goal
-use Rattle.writer.proofs.write.Goals.{in-Some, in-default}
+use Rattle.writer.proofs.write.Goals.{in-Some, in_default}
 
 pub loop-number-preserved : goal.loop-number-preserved
 loop-number-preserved c =
@@ -25,7 +25,7 @@ loop-number-preserved c =
                 ∙ turn_adds s n r (items c.loop-number.out) (items w.append.new.out) (is_ok w.append.result) c.count-number-end.ensures.few inside w.in-Some.ensures c.loop-number.invariant.0 w.append.ensures.value w.append.ensures.after,
             subst (All FitsWidths) (sym (front_more (rows s) n r inside w.in-Some.ensures)) (All-push FitsWidths (take n (rows s)) r c.loop-number.invariant.1 w.append.ensures.fits),
           )
-      | in-default w ↦ absurd (there_is (rows s) n inside w.in-default.ensures)
+      | in_default w ↦ absurd (there_is (rows s) n inside w.in_default.ensures)
     ]
 
 pub returns : goal.returns

@@ -5,22 +5,22 @@ use Rattle.command.proofs.hex.bytes_of.Goals as goal
 
 pub returns-then-letters-at-lt2 : goal.returns-then-letters-at-lt2
 returns-then-letters-at-lt2 c =
-    ap bytes_spelt (sym c.as-bytes-letters.ensures.value)
-    ∙ spelt_left c.as-bytes-letters.result.now (vec_items c.loop-at.out) c.loop-at.at (omega arith) (omega arith) c.loop-at.invariant.1
+    ap bytes_spelt (sym c.as_bytes-letters.ensures.value)
+    ∙ spelt_left c.as_bytes-letters.result.now (vec_items c.loop-at.out) c.loop-at.at (omega arith) (omega arith) c.loop-at.invariant.1
 
-pub returns-in-default : goal.returns-in-default
-returns-in-default c =
-    let p : pair_value (get_or c.as-bytes-letters.result.now c.loop-at.at 0) (get_or c.as-bytes-letters.result.now (c.loop-at.at + 1) 0) ≡ None = search rules in
-    ap bytes_spelt (sym c.as-bytes-letters.ensures.value)
-    ∙ spelt_wrong c.as-bytes-letters.result.now (vec_items c.loop-at.out) c.loop-at.at (omega arith) p c.loop-at.invariant.1
+pub returns-in_default : goal.returns-in_default
+returns-in_default c =
+    let p : pair_value (get_or c.as_bytes-letters.result.now c.loop-at.at 0) (get_or c.as_bytes-letters.result.now (c.loop-at.at + 1) 0) ≡ None = search rules in
+    ap bytes_spelt (sym c.as_bytes-letters.ensures.value)
+    ∙ spelt_wrong c.as_bytes-letters.result.now (vec_items c.loop-at.out) c.loop-at.at (omega arith) p c.loop-at.invariant.1
 
 pub loop-at-preserved : goal.loop-at-preserved
 loop-at-preserved c =
-    let p : pair_value (get_or c.as-bytes-letters.result.now c.loop-at.at 0) (get_or c.as-bytes-letters.result.now (c.loop-at.at + 1) 0) ≡ Some c.in-Some.byte = search rules in
+    let p : pair_value (get_or c.as_bytes-letters.result.now c.loop-at.at 0) (get_or c.as_bytes-letters.result.now (c.loop-at.at + 1) 0) ≡ Some c.in-Some.byte = search rules in
     let e : vec_items c.push.new.self ≡ vec_items c.loop-at.out ++ c.in-Some.byte ∷ [] = search rules in
-    (omega arith, simp e (spelt_more c.as-bytes-letters.result.now (vec_items c.loop-at.out) c.loop-at.at c.in-Some.byte (omega arith) p c.loop-at.invariant.1))
+    (omega arith, simp e (spelt_more c.as_bytes-letters.result.now (vec_items c.loop-at.out) c.loop-at.at c.in-Some.byte (omega arith) p c.loop-at.invariant.1))
 
 pub returns : goal.returns
 returns c =
-    ap bytes_spelt (sym c.as-bytes-letters.ensures.value)
-    ∙ spelt_all c.as-bytes-letters.result.now (vec_items c.loop-at.out) c.loop-at.at (omega arith) c.loop-at.invariant.1
+    ap bytes_spelt (sym c.as_bytes-letters.ensures.value)
+    ∙ spelt_all c.as_bytes-letters.result.now (vec_items c.loop-at.out) c.loop-at.at (omega arith) c.loop-at.invariant.1

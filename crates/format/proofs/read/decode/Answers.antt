@@ -8,6 +8,6 @@ returns c =
     let fits : (i : ℕ) → Fits w8 (get_or c.args.bytes.now i 0) = search rules in
     let small : (i : ℕ) → get_or c.args.bytes.now i 0 < 256 = λ i. omega (arith, (fits i).fits) in
     record {
-      value = c.record-of.ensures;
-      again = subst (WrittenAgain c.args.bytes.now) (sym c.record-of.ensures) (written_again c.args.bytes.now small);
+      value = c.record_of.ensures;
+      again = subst (WrittenAgain c.args.bytes.now) (sym c.record_of.ensures) (written_again c.args.bytes.now small);
     }

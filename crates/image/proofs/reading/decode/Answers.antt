@@ -6,10 +6,10 @@ use Rattle.code.specs.Words.{word_of, instruction_of}
 use Rattle.image.proofs.Composing.{decoded_some, decoded_none, composed_more, ill_ended, ill_placed, composed}
 use Rattle.image.proofs.reading.decode.Goals as goal
 
-pub returns-then-not-is-end : goal.returns-then-not-is-end
-returns-then-not-is-end c =
+pub returns-then-not-is_end : goal.returns-then-not-is_end
+returns-then-not-is_end c =
     let some : 0 < c.args.count = omega arith in
-    ill_ended c.args.words.now c.args.count (map instruction_of (take c.args.count c.args.words.now)) some (sym c.if-not-is-end.ensures)
+    ill_ended c.args.words.now c.args.count (map instruction_of (take c.args.count c.args.words.now)) some (sym c.if-not-is_end.ensures)
 
 pub loop-k-preserved : goal.loop-k-preserved
 loop-k-preserved c =
@@ -21,12 +21,12 @@ loop-k-preserved c =
       length-set c.loop-k.code c.loop-k.k c.in-Some.instruction ∙ c.loop-k.invariant.2,
     )
 
-pub returns-in-default : goal.returns-in-default
-returns-in-default c =
+pub returns-in_default : goal.returns-in_default
+returns-in_default c =
     let whole : c.args.count ≤ length c.args.words.now = omega arith in
     let few : c.args.count ≤ 4096 = omega arith in
-    ill_placed c.args.words.now c.args.count c.loop-k.k (map instruction_of (take c.args.count c.args.words.now)) whole c.loop-k-test.true few (sym c.if-not-is-end.ensures) c.loop-k.invariant.0
-    (decoded_none (legal c.args.count (get_or c.args.words.now c.loop-k.k (word_of Return))) (instruction_of (get_or c.args.words.now c.loop-k.k (word_of Return))) c.in-default.ensures.value)
+    ill_placed c.args.words.now c.args.count c.loop-k.k (map instruction_of (take c.args.count c.args.words.now)) whole c.loop-k-test.true few (sym c.if-not-is_end.ensures) c.loop-k.invariant.0
+    (decoded_none (legal c.args.count (get_or c.args.words.now c.loop-k.k (word_of Return))) (instruction_of (get_or c.args.words.now c.loop-k.k (word_of Return))) c.in_default.ensures.value)
 
 pub returns : goal.returns
 returns c =

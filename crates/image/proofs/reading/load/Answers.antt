@@ -4,4 +4,4 @@ use Rattle.image.proofs.reading.load.Goals as goal
 
 pub returns : goal.returns
 returns c =
-    read_whole c.args.bytes.now c.in-ok-count.count c.in-ok-words.words (held c.decode.result) c.in-ok-count.ensures c.in-ok-words.ensures c.decode.ensures
+    read_whole c.args.bytes.now c.in_ok-count.count c.in_ok-words.words (held c.decode.result) c.in_ok-count.ensures c.in_ok-words.ensures c.decode.ensures

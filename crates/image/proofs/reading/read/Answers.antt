@@ -7,6 +7,6 @@ pub returns : goal.returns
 returns c =
     record {
       value = c.load.ensures;
-      back = store_back c.load.result c.args.bytes.now (All-from_get_or (λ b. b < 256) c.args.bytes.now 0 (λ i h. omega (arith, c.type-inv.bytes i))) c.load.ensures;
+      back = store_back c.load.result c.args.bytes.now (All-from_get_or (λ b. b < 256) c.args.bytes.now 0 (λ i h. omega (arith, c.type_inv.bytes i))) c.load.ensures;
       laws = (written_back, one_image);
     }

@@ -18,10 +18,10 @@ returns-then-buffer-needed c =
 pub returns : goal.returns
 returns c =
     let room : image_length (length (instructions c.args.store.now)) ≤ length c.args.buffer.now = omega (arith, c.len-count.ensures.count) in
-    let left = image_left c.args.buffer.now c.put.new.buffer c.put-cells.new.buffer c.head.result c.as-slice.result.now (instructions c.args.store.now) c.len-count.result c.len-count.ensures.count c.head.ensures c.as-slice.ensures.value c.put.ensures c.put-cells.ensures in
+    let left = image_left c.args.buffer.now c.put.new.buffer c.put_cells.new.buffer c.head.result c.as_slice.result.now (instructions c.args.store.now) c.len-count.result c.len-count.ensures.count c.head.ensures c.as_slice.ensures.value c.put.ensures c.put_cells.ensures in
     let size = ap image_length c.len-count.ensures.count in
     record {
-      value = written_all c.args.buffer.now c.put-cells.new.buffer (instructions c.args.store.now) _ room size left;
-      back = buffer_back _ (instructions c.args.store.now) c.put-cells.new.buffer (drop (image_length (length (instructions c.args.store.now))) c.args.buffer.now) (store_sound c.args.store.now) size left;
+      value = written_all c.args.buffer.now c.put_cells.new.buffer (instructions c.args.store.now) _ room size left;
+      back = buffer_back _ (instructions c.args.store.now) c.put_cells.new.buffer (drop (image_length (length (instructions c.args.store.now))) c.args.buffer.now) (store_sound c.args.store.now) size left;
       laws = (read_back, one_code);
     }

@@ -7,31 +7,31 @@ use Rattle.lookups.specs.Lookups.{mode_at}
 use Rattle.lookups.specs.Searches.{any}
 use Rattle.levels.proofs.walk.+mode_meets_module_meets_program_meets.Goals as goal
 
-pub module-meets-loop-d-init : goal.module-meets-loop-d-init
-module-meets-loop-d-init t c = search (rules, any_none)
+pub module_meets-loop-d-init : goal.module_meets-loop-d-init
+module_meets-loop-d-init t c = search (rules, any_none)
 
-pub module-meets-returns-then-mode-meets : goal.module-meets-returns-then-mode-meets
-module-meets-returns-then-mode-meets t c =
+pub module_meets-returns-then-mode_meets : goal.module_meets-returns-then-mode_meets
+module_meets-returns-then-mode_meets t c =
     let s = station c.args.tables.now in
     let found : true ≡ any (λ d. eqb (mode_at s d).home c.args.m && meets s c.args.target (c.args.levels - 1) (Some d)) (length s.modes) =
     any_stop _ _ _ c.loop-d.invariant (search rules) (search rules) in
     search rules
 
-pub module-meets-loop-d-preserved : goal.module-meets-loop-d-preserved
-module-meets-loop-d-preserved t c = search (rules, any_more)
+pub module_meets-loop-d-preserved : goal.module_meets-loop-d-preserved
+module_meets-loop-d-preserved t c = search (rules, any_more)
 
-pub program-meets-returns-then-levels-eq0 : goal.program-meets-returns-then-levels-eq0
-program-meets-returns-then-levels-eq0 t c = search (rules, meets_none)
+pub program_meets-returns-then-levels-eq0 : goal.program_meets-returns-then-levels-eq0
+program_meets-returns-then-levels-eq0 t c = search (rules, meets_none)
 
-pub program-meets-loop-m-init : goal.program-meets-loop-m-init
-program-meets-loop-m-init t c = search (rules, any_none)
+pub program_meets-loop-m-init : goal.program_meets-loop-m-init
+program_meets-loop-m-init t c = search (rules, any_none)
 
-pub program-meets-returns-then-module-meets : goal.program-meets-returns-then-module-meets
-program-meets-returns-then-module-meets t c =
+pub program_meets-returns-then-module_meets : goal.program_meets-returns-then-module_meets
+program_meets-returns-then-module_meets t c =
     any_stop _ _ _ c.loop-m.invariant (search rules) (search rules) ∙ sym (meets_is _ _ _ _ (search rules))
 
-pub program-meets-loop-m-preserved : goal.program-meets-loop-m-preserved
-program-meets-loop-m-preserved t c = search (rules, any_more)
+pub program_meets-loop-m-preserved : goal.program_meets-loop-m-preserved
+program_meets-loop-m-preserved t c = search (rules, any_more)
 
-pub program-meets-returns : goal.program-meets-returns
-program-meets-returns t c = search (rules, meets_is)
+pub program_meets-returns : goal.program_meets-returns
+program_meets-returns t c = search (rules, meets_is)

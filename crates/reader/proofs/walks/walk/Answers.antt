@@ -5,7 +5,7 @@ use Rattle.reader.proofs.walks.walk.Goals as goal
 
 pub returns : goal.returns
 returns c =
-    let small : (i : ℕ) → get_or c.args.bytes.now i 0 < 256 = λ i. omega (arith, (c.type-inv.bytes i).fits) in
+    let small : (i : ℕ) → get_or c.args.bytes.now i 0 < 256 = λ i. omega (arith, (c.type_inv.bytes i).fits) in
     record {
       value = c.filled.ensures;
       again = records_exact c.args.bytes.now (outcome c.filled.result) small (sym c.filled.ensures);

@@ -8,5 +8,5 @@ loop-j-init c = search (rules, any_none)
 pub loop-j-preserved : goal.loop-j-preserved
 loop-j-preserved c = search (rules, any_more)
 
-pub returns-then-is-abstract : goal.returns-then-is-abstract
-returns-then-is-abstract c = any_stop _ _ _ c.loop-j.invariant (search rules) (search rules)
+pub returns-then-is_abstract : goal.returns-then-is_abstract
+returns-then-is_abstract c = any_stop _ _ _ c.loop-j.invariant (search rules) (search rules)

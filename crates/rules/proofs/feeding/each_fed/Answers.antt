@@ -8,5 +8,5 @@ loop-k-init c = search (rules, every_none)
 pub loop-k-preserved : goal.loop-k-preserved
 loop-k-preserved c = search (rules, every_more)
 
-pub returns-then-feeds-of-ne1 : goal.returns-then-feeds-of-ne1
-returns-then-feeds-of-ne1 c = every_stop _ _ _ c.loop-k.invariant (search rules) (search rules)
+pub returns-then-feeds_of-ne1 : goal.returns-then-feeds_of-ne1
+returns-then-feeds_of-ne1 c = every_stop _ _ _ c.loop-k.invariant (search rules) (search rules)

@@ -8,5 +8,5 @@ loop-j-init c = search (rules, every_none)
 pub loop-j-preserved : goal.loop-j-preserved
 loop-j-preserved c = search (rules, every_more)
 
-pub returns-then-not-depends-on-parent : goal.returns-then-not-depends-on-parent
-returns-then-not-depends-on-parent c = every_stop _ _ _ c.loop-j.invariant (search rules) (search rules)
+pub returns-then-not-depends_on_parent : goal.returns-then-not-depends_on_parent
+returns-then-not-depends_on_parent c = every_stop _ _ _ c.loop-j.invariant (search rules) (search rules)

@@ -8,5 +8,5 @@ loop-t-init c = search (rules, any_none)
 pub loop-t-preserved : goal.loop-t-preserved
 loop-t-preserved c = search (rules, any_more)
 
-pub returns-then-is-abstract : goal.returns-then-is-abstract
-returns-then-is-abstract c = any_stop _ _ _ c.loop-t.invariant (search rules) (search rules)
+pub returns-then-is_abstract : goal.returns-then-is_abstract
+returns-then-is_abstract c = any_stop _ _ _ c.loop-t.invariant (search rules) (search rules)

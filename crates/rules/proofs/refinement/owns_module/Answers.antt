@@ -8,5 +8,5 @@ loop-m-init c = search (rules, any_none)
 pub loop-m-preserved : goal.loop-m-preserved
 loop-m-preserved c = search (rules, any_more)
 
-pub returns-then-is-number : goal.returns-then-is-number
-returns-then-is-number c = any_stop _ _ _ c.loop-m.invariant (search rules) (search rules)
+pub returns-then-is_number : goal.returns-then-is_number
+returns-then-is_number c = any_stop _ _ _ c.loop-m.invariant (search rules) (search rules)

@@ -8,5 +8,5 @@ loop-j-init c = search (rules, every_none)
 pub loop-j-preserved : goal.loop-j-preserved
 loop-j-preserved c = search (rules, every_more)
 
-pub returns-then-not-writes-to : goal.returns-then-not-writes-to
-returns-then-not-writes-to c = every_stop _ _ _ c.loop-j.invariant (search rules) (search rules)
+pub returns-then-not-writes_to : goal.returns-then-not-writes_to
+returns-then-not-writes_to c = every_stop _ _ _ c.loop-j.invariant (search rules) (search rules)

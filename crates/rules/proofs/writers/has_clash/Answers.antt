@@ -8,5 +8,5 @@ loop-j-init c = search (rules, any_none)
 pub loop-j-preserved : goal.loop-j-preserved
 loop-j-preserved c = search (rules, any_more)
 
-pub returns-then-is-contested : goal.returns-then-is-contested
-returns-then-is-contested c = any_stop _ _ _ c.loop-j.invariant (search rules) (search rules)
+pub returns-then-is_contested : goal.returns-then-is_contested
+returns-then-is_contested c = any_stop _ _ _ c.loop-j.invariant (search rules) (search rules)

@@ -8,5 +8,5 @@ loop-j-init c = search (rules, any_none)
 pub loop-j-preserved : goal.loop-j-preserved
 loop-j-preserved c = search (rules, any_more)
 
-pub returns-then-are-rivals : goal.returns-then-are-rivals
-returns-then-are-rivals c = any_stop _ _ _ c.loop-j.invariant (search rules) (search rules)
+pub returns-then-are_rivals : goal.returns-then-are_rivals
+returns-then-are_rivals c = any_stop _ _ _ c.loop-j.invariant (search rules) (search rules)

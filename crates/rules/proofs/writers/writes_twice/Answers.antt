@@ -8,5 +8,5 @@ loop-j-init c = search (rules, any_none)
 pub loop-j-preserved : goal.loop-j-preserved
 loop-j-preserved c = search (rules, any_more)
 
-pub returns-then-written-before : goal.returns-then-written-before
-returns-then-written-before c = any_stop _ _ _ c.loop-j.invariant (search rules) (search rules)
+pub returns-then-written_before : goal.returns-then-written_before
+returns-then-written_before c = any_stop _ _ _ c.loop-j.invariant (search rules) (search rules)

@@ -7,4 +7,4 @@ pub loop-k-init : goal.loop-k-init
 loop-k-init c = (sym (ends_start (station c.args.tables.now)), refl)
 
 pub loop-k-preserved : goal.loop-k-preserved
-loop-k-preserved c = ends_more (station c.args.tables.now) c.loop-k.known c.loop-k.k _ c.end-by.result c.loop-k.invariant (omega (arith, ap length c.tasks-count.ensures.value)) c.end-by.ensures
+loop-k-preserved c = ends_more (station c.args.tables.now) c.loop-k.known c.loop-k.k _ c.end_by.result c.loop-k.invariant (omega (arith, ap length c.tasks-count.ensures.value)) c.end_by.ensures
