@@ -3,7 +3,7 @@ use Rattle.std.proofs.Common.{◌≡◌, ℕ, ◌+◌, ◌-◌, ◌<◌, ◌≤�
 use Rattle.fault.specs.declared.Fault.{Fault}
 use Rattle.fault.specs.declared.Fault.TheVariants.{BadCode}
 use Rattle.std.proofs.lemmas.List.{length-map, get_or-map, get_or-take, get_or_past, length-take-le}
-use Rattle.std.proofs.lemmas.Bool.{and_parts, and_from, ltb-true, leb_true, lt-ltb, le-leb, cond-true, cond-false, and_left, and_right, cases_order, false≢true}
+use Rattle.std.proofs.lemmas.Bool.{and_parts, and_from, ltb-true, leb-true, lt-ltb, le-leb, cond-true, cond-false, and_left, and_right, cases_order, false≢true}
 use Rattle.code.specs.declared.CodeStore.{CodeStore}
 use Rattle.code.specs.declared.instructions.Instruction.{Instruction}
 use Rattle.code.specs.declared.instructions.Instruction.TheVariants.{Return}
@@ -88,11 +88,11 @@ sound_unbroken n xs whole e =
     let q = and_parts (ltb 0 n && leb n 4096) _ p.0 in
     let s = and_parts (ltb 0 n) _ q.0 in
     let some : 0 < n = ltb-true 0 n s.0 in
-    let w : length xs ≡ n = whole (leb_true n 4096 s.1) in
+    let w : length xs ≡ n = whole (leb-true n 4096 s.1) in
     let count : length (map word_of xs) ≡ n = length-map xs word_of ∙ w in
     let low : n - 1 < length xs = omega arith in (
       some,
-      leb_true n 4096 s.1,
+      leb-true n 4096 s.1,
       (λ k h. let near : k < length xs = omega arith in let inside : k < length (map word_of xs) = omega arith in within n (get_or xs k Return) (ap (legal n) (sym (get_or-map word_of xs k Return (word_of Return) near)) ∙ unmet_passed (legal n) 0 (map word_of xs) (word_of Return) p.1 k inside)),
       last (get_or xs (n - 1) Return) (ap (λ v. is_end v.opcode) (sym (get_or-map word_of xs (n - 1) Return (word_of Return) low)) ∙ q.1),
     )
