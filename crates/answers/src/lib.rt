@@ -1,7 +1,6 @@
 // What is asked of a running station, and what it answers.
 #![tactic(auto)]
 
-
 // What happened in a call: the clock, the communicators written, the modes entered and the tasks released, by number.
 #[derive(Clone, Copy)]
 pub struct Events {

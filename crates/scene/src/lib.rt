@@ -1,7 +1,6 @@
 // What a station keeps of its communicators, tasks and modules, and what each step changes of it.
 #![tactic(auto)]
 
-
 // Where a task stands: idle, expected to be released in this round, or out at work.
 #[derive(Clone, Copy)]
 pub enum Stage {
