@@ -4,7 +4,6 @@ use Rattle.std.proofs.lemmas.Bool.{and_parts, and_from, eqb-false, ne_eqb, not-t
 use Rattle.std.proofs.lemmas.Bool.Decides.{nat_tests}
 use Rattle.code.specs.declared.instructions.Register.{Register}
 use Rattle.code.specs.declared.instructions.Register.TheVariants.{R0, R1, R2, R3}
-use Rattle.code.specs.declared.instructions.Opcode.TheVariants as op
 use Rattle.code.specs.declared.instructions.Instruction.{Instruction}
 use Rattle.code.specs.declared.instructions.Instruction.TheVariants.{Return, Write, Read, Depend, Expect, Release, Enter, FutureWrite, FutureSwitch, FutureRead, FutureRelease, JumpIf, Jump, Call, Copy, Push, Pop, GetParent, SetParent, Adopt, Delete}
 use Rattle.code.specs.Opcodes.{is_end, register_number, register_of}

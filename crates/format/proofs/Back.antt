@@ -1,12 +1,11 @@
 -- What is read is what would be written.
-use Rattle.std.proofs.Common.{◌≡◌, ℕ, suc, ◌+◌, ◌*◌, ◌<◌, ◌≤◌, Bool, true, cond, ◌&&◌, eqb, ltb, List, [], ◌∷◌, length, get_or, take, Ok, Err, Result, sym, refl, ap, ◌∙◌, subst, inl, inr, arith}
+use Rattle.std.proofs.Common.{◌≡◌, ℕ, suc, ◌<◌, ◌≤◌, Bool, true, cond, ltb, List, length, get_or, take, Ok, Err, Result, sym, refl, ap, ◌∙◌, subst, inl, inr, arith}
 use Rattle.std.proofs.lemmas.Bool.{cases_Bool}
 use Rattle.std.proofs.lemmas.Bool.Decides.{leb_tells, nat_tests}
 use Rattle.tables.specs.Kinds.{kind_of}
 use Rattle.tables.specs.declared.records.Kind.{Kind}
 use Rattle.tables.specs.declared.records.Kind.TheVariants.{Communicators, Modules, Modes, Tasks, Reads, Writes, Dependencies, Switches}
-use Rattle.format.specs.Fields.{number_or_none, byte_or_none, use_of, use_byte, form_of, form_byte}
-use Rattle.format.specs.Numbers.{half_at, word_at, half_bytes, word_bytes}
+use Rattle.format.specs.Fields.{number_or_none, use_of, form_of}
 use Rattle.format.specs.Records.{mark, size, marked, kind_read, fields_read, whole_read, record_read, record_bytes}
 use Rattle.format.specs.Promises.{WrittenAgain}
 use Rattle.format.specs.declared.Flaw.{Flaw}

@@ -1,5 +1,5 @@
 -- What is promised of the bytes of a record.
-use Rattle.std.specs.Prelude.{◌≡◌, ℕ, ◌<◌, List, ◌++◌, take, Ok, Err, Result}
+use Rattle.std.specs.Prelude.{◌≡◌, ℕ, List, ◌++◌, take, Ok, Err, Result}
 use Rattle.tables.specs.Kinds.{kind_of}
 use Rattle.tables.specs.declared.records.Record.{Record}
 use Rattle.format.specs.declared.Flaw.{Flaw}

@@ -1,5 +1,5 @@
 -- Which records the bytes can express.
-use Rattle.std.specs.Prelude.{◌≡◌, ℕ, ◌<◌, FitsSigned}
+use Rattle.std.specs.Prelude.{◌≡◌, ◌<◌, FitsSigned}
 use Rattle.std.specs.Int.{w32}
 use Rattle.tables.specs.declared.records.Record.{Record}
 use Rattle.tables.specs.declared.records.Record.TheVariants.{Communicator, Module, Mode, Task, Read, Write, Dependency, Switch}

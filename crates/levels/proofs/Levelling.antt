@@ -1,5 +1,5 @@
 -- The walk through the levels, one level on.
-use Rattle.std.proofs.Common.{◌≡◌, ℕ, zero, suc, ◌-◌, ◌<◌, false, ◌&&◌, eqb, length, Option, refl, sub-one, arith}
+use Rattle.std.proofs.Common.{◌≡◌, ℕ, zero, suc, ◌-◌, ◌<◌, false, ◌&&◌, length, Option, refl, sub-one, arith}
 use Rattle.tables.specs.Stations.{Station}
 use Rattle.levels.specs.Levels.{same_owner, meets, meets_module}
 use Rattle.lookups.specs.Lookups.{module_at}

@@ -1,10 +1,10 @@
 -- The walk meets each module once.
-use Rattle.std.proofs.Common.{◌≡◌, ℕ, zero, suc, ◌+◌, ◌<◌, ◌≤◌, Bool, true, false, cond, eqb, length, Some, None, Option, sym, refl, ap, ◌∙◌, arith}
+use Rattle.std.proofs.Common.{◌≡◌, ℕ, zero, suc, ◌+◌, ◌<◌, Bool, eqb, length, Some, None, Option, sym, refl, ap, ◌∙◌, arith}
 use Rattle.std.proofs.lemmas.Bool.Decides.{nat_tests}
 use Rattle.tables.specs.Stations.{Station}
 use Rattle.levels.proofs.Reaching.{Named}
 use Rattle.lookups.proofs.Sums.{One, total_same, total_plus, total_none, total_one}
-use Rattle.levels.specs.Levels.{same_owner, Reach, within, under, Level, meetings}
+use Rattle.levels.specs.Levels.{same_owner, within, under, Level, meetings}
 use Rattle.lookups.specs.Lookups.{module_at, mode_at}
 use Rattle.lookups.specs.Searches.{total}
 

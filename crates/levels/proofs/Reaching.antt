@@ -1,11 +1,10 @@
 -- The walk meets a module within n levels exactly if its level is at most n.
-use Rattle.std.proofs.Common.{◌≡◌, ℕ, zero, suc, ◌<◌, ◌≤◌, Bool, true, false, ◌&&◌, ◌||◌, eqb, ◌⊎◌, length, Some, None, Option, sym, refl, ap, ◌∙◌, subst, inl, inr, arith}
+use Rattle.std.proofs.Common.{◌≡◌, ℕ, zero, suc, ◌<◌, true, ◌&&◌, eqb, ◌⊎◌, length, Some, None, Option, sym, refl, ap, ◌∙◌, subst, inl, inr, arith}
 use Rattle.std.proofs.lemmas.Bool.{eqb-true, eq-eqb, and_parts, and_from, or_cases, or_left, or_right}
 use Rattle.tables.specs.Stations.{Station}
 use Rattle.lookups.proofs.Searching.{any_at, any_some}
-use Rattle.levels.specs.Levels.{same_owner, meets, meets_module, Reach, within, under, Level}
+use Rattle.levels.specs.Levels.{same_owner, meets, meets_module, Reach, within, under}
 use Rattle.lookups.specs.Lookups.{module_at, mode_at}
-use Rattle.lookups.specs.Searches.{any}
 
 -- what the walk needs of the tables
 pub record Named (s : Station) : Type 0 where

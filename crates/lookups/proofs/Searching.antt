@@ -1,7 +1,6 @@
 -- Searches one step on, stopped early, and what they tell.
-use Rattle.std.proofs.Common.{◌≡◌, ℕ, zero, suc, ◌+◌, ◌<◌, ◌≤◌, min, max, Bool, true, false, cond, ◌&&◌, ◌||◌, ◌⊎◌, Some, None, Option, sym, refl, ap, ◌∙◌, inl, inr, add-one, arith}
-use Rattle.std.proofs.lemmas.Bool.{and_parts, and_from, or_left, or_right, or_cases, cases_Bool, cases_order}
-use Rattle.std.proofs.lemmas.Bool.Decides.{nat_tests}
+use Rattle.std.proofs.Common.{◌≡◌, ℕ, zero, suc, ◌+◌, ◌<◌, min, max, Bool, true, false, cond, ◌&&◌, ◌||◌, ◌⊎◌, Some, None, Option, sym, refl, inl, inr, add-one, arith}
+use Rattle.std.proofs.lemmas.Bool.{and_parts, or_left, or_right, or_cases, cases_Bool, cases_order}
 use Rattle.lookups.specs.Searches.{or_else, first_failing, any, every, tally, largest, smallest}
 
 different : (b : Bool) → b ≡ true → b ≡ false → ◌≡◌ {A = ℕ} 0 1

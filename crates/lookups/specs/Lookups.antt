@@ -1,5 +1,5 @@
 -- The record of a kind that has a number; where there is none, a blank one.
-use Rattle.std.specs.Prelude.{ℕ, Bool, true, false, length, pos, Some, None, Option, ◌==◌, slice_index_or}
+use Rattle.std.specs.Prelude.{ℕ, Bool, true, false, pos, Some, None, Option, ◌==◌, slice_index_or}
 use Rattle.tables.specs.Stations.{Station}
 use Rattle.tables.specs.declared.records.Communicator.{Communicator}
 use Rattle.tables.specs.declared.records.Module.{Module}

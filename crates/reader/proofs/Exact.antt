@@ -1,5 +1,5 @@
 -- Bytes that are read are the bytes that would be written.
-use Rattle.std.proofs.Common.{◌≡◌, ℕ, zero, suc, ◌+◌, ◌-◌, ◌<◌, ◌≤◌, Bool, true, false, cond, ltb, List, [], ◌∷◌, ◌++◌, length, get_or, take, drop, Ok, Err, Result, sym, refl, ap, ◌∙◌, subst, inl, inr, add-one, arith}
+use Rattle.std.proofs.Common.{◌≡◌, ℕ, zero, suc, ◌+◌, ◌<◌, ◌≤◌, cond, List, [], ◌++◌, length, drop, Ok, Err, Result, sym, refl, ap, ◌∙◌, subst, inl, inr, add-one, arith}
 use Rattle.fault.specs.declared.Fault.{Fault}
 use Rattle.fault.specs.declared.Fault.TheVariants.{TooMany}
 use Rattle.format.proofs.Back.{Bytes, written_again}
@@ -10,7 +10,7 @@ use Rattle.format.specs.declared.Flaw.{Flaw}
 use Rattle.std.proofs.ByRecursion.{All-push}
 use Rattle.std.proofs.lemmas.List.{append_assoc, append-nil, get_or-drop, flat_map_more, length-drop, nil_from_length, take-append-drop}
 use Rattle.std.proofs.lemmas.Bool.{cases_Bool, cases_lt}
-use Rattle.std.proofs.lemmas.Bool.Decides.{leb_tells, nat_tests}
+use Rattle.std.proofs.lemmas.Bool.Decides.{leb_tells}
 use Rattle.std.specs.List.{flat_map, AllByRecursion as All}
 use Rattle.tables.proofs.Order.{UpTo, up_to_empty, up_to_with, rows_with}
 use Rattle.tables.specs.Kinds.{kind_of, rank}
@@ -19,7 +19,7 @@ use Rattle.tables.specs.declared.records.Kind.TheVariants.{Communicators}
 use Rattle.tables.specs.declared.records.Record.{Record}
 use Rattle.reader.proofs.Walking.{walk_over, walk_on, size_some}
 use Rattle.reader.specs.Promises.{WrittenAgain}
-use Rattle.reader.specs.Steps.{Standing, flawed, ordered, next_record, past}
+use Rattle.reader.specs.Steps.{Standing, ordered, next_record, past}
 use Rattle.reader.specs.Walks.{onward, walked, outset, records}
 
 -- a record that was stored, and what the rest of the walk came to

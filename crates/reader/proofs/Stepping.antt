@@ -1,9 +1,8 @@
 -- One step of the cursor.
-use Rattle.std.proofs.Common.{◌≡◌, ℕ, ◌+◌, ◌≤◌, false, cond, eqb, ltb, List, length, take, drop, Some, None, Ok, Err, Option, Result, sym, refl, ap, ◌∙◌, arith}
+use Rattle.std.proofs.Common.{◌≡◌, ℕ, ◌+◌, ◌≤◌, false, cond, eqb, List, length, take, drop, Some, None, Ok, Option, Result, sym, ap, ◌∙◌, arith}
 use Rattle.fault.specs.declared.Fault.{Fault}
 use Rattle.format.proofs.Forth.{bytes_size}
-use Rattle.format.specs.Records.{record_bytes, record_read, size}
-use Rattle.format.specs.declared.Flaw.{Flaw}
+use Rattle.format.specs.Records.{record_bytes, size}
 use Rattle.std.proofs.lemmas.List.{length-take}
 use Rattle.std.proofs.lemmas.Bool.Decides.{nat_tests}
 use Rattle.tables.specs.Kinds.{kind_of, rank}

@@ -1,5 +1,5 @@
 -- The verdict names the first broken rule and its first record.
-use Rattle.std.proofs.Common.{◌≡◌, ℕ, ◌<◌, Bool, true, false, ◌&&◌, ltb, ◌⊎◌, List, [], ◌∷◌, length, Some, None, Ok, Err, Option, Result, sym, refl, ap, ◌∙◌, subst, inl, inr, arith}
+use Rattle.std.proofs.Common.{◌≡◌, ℕ, ◌<◌, Bool, true, false, ◌&&◌, ltb, ◌⊎◌, List, [], ◌∷◌, Some, None, Ok, Err, Option, Result, refl, ap, subst, inl, inr, arith}
 use Rattle.fault.specs.Refusals.{number}
 use Rattle.fault.specs.declared.Fault.{Fault}
 use Rattle.fault.specs.declared.Fault.TheVariants.{Broken}
@@ -11,7 +11,7 @@ use Rattle.tables.specs.Stations.{Station}
 use Rattle.lookups.proofs.Searching.{first_at, first_none_all, first_none_from, first_some_all, first_some_from}
 use Rattle.rules.specs.Rules.{holds}
 use Rattle.lookups.specs.Searches.{first_failing}
-use Rattle.rules.specs.Verdicts.{record_count, Holds, Keeps, answer, checked, checks, all_rules, verdict, ◌then◌, FirstBroken, Exactly}
+use Rattle.rules.specs.Verdicts.{record_count, Holds, answer, checked, checks, all_rules, verdict, Exactly}
 
 -- a loop over the records that goes through, and one that stops at k
 pub checked_through :

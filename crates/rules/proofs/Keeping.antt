@@ -1,11 +1,11 @@
 -- What tables that keep every rule promise.
-use Rattle.std.proofs.Common.{◌≡◌, ℕ, zero, suc, ◌<◌, ◌≤◌, Bool, true, false, not, ◌&&◌, ◌||◌, eqb, ltb, leb, ◌⊎◌, length, Some, None, Option, sym, refl, ap, ◌∙◌, subst, inl, inr, arith}
+use Rattle.std.proofs.Common.{◌≡◌, ℕ, ◌<◌, Bool, true, false, not, ◌&&◌, ◌||◌, eqb, ltb, leb, length, Some, None, Option, sym, refl, ap, ◌∙◌, subst, inl, inr, arith}
 use Rattle.fault.specs.declared.Rule.TheVariants.{Fields, Hierarchy, Timing, Feeding, Window, Refinement, Writers}
 use Rattle.std.proofs.lemmas.Bool.{ltb-true, eqb-true, eq-eqb, and_parts, and_from, or_left, or_right, cases_Bool, not-true, both_ways}
 use Rattle.std.proofs.lemmas.Bool.Decides.{nat_tests}
 use Rattle.tables.specs.Stations.{Station, Few}
 use Rattle.tables.specs.declared.records.Kind.TheVariants.{Tasks}
-use Rattle.tables.specs.declared.records.Place.TheVariants.{Communicator, Module, Mode, Task, Read, Write, Dependency, Switch}
+use Rattle.tables.specs.declared.records.Place.TheVariants.{Module, Mode, Task, Dependency}
 use Rattle.levels.proofs.Meeting.{reached_once}
 use Rattle.rules.proofs.Places.{kept_at}
 use Rattle.rules.proofs.Racing.{Family, races_none, owner_cases, never, same_number}

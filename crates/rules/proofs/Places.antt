@@ -1,14 +1,14 @@
 -- Each record has one number over all kinds.
-use Rattle.std.proofs.Common.{◌≡◌, ℕ, ◌+◌, ◌-◌, ◌<◌, true, length, subst, arith}
+use Rattle.std.proofs.Common.{◌≡◌, ℕ, ◌+◌, ◌<◌, true, length, subst, arith}
 use Rattle.fault.specs.declared.Rule.{Rule}
 use Rattle.std.proofs.lemmas.Bool.Decides.{nat_tests}
 use Rattle.tables.proofs.Numbering.{length_rows}
 use Rattle.tables.specs.Places.{place}
-use Rattle.tables.specs.Stations.{Station, rows}
+use Rattle.tables.specs.Stations.{Station}
 use Rattle.tables.specs.declared.records.Place.{Place}
 use Rattle.tables.specs.declared.records.Place.TheVariants.{Communicator, Module, Mode, Task, Read, Write, Dependency, Switch}
 use Rattle.rules.specs.Rules.{holds}
-use Rattle.rules.specs.Verdicts.{record_count, Holds, Keeps}
+use Rattle.rules.specs.Verdicts.{record_count, Keeps}
 
 -- the record exists
 abbrev pub Stands : Station → Place → Type 0

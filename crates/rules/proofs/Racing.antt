@@ -1,10 +1,9 @@
 -- Tasks that are active together never write one communicator.
-use Rattle.std.proofs.Common.{◌≡◌, ℕ, zero, suc, ◌+◌, ◌<◌, ◌≤◌, Bool, true, false, not, ◌&&◌, ◌||◌, eqb, ltb, ◌⊎◌, length, Some, None, Option, sym, refl, ap, ◌∙◌, subst, inl, inr, arith}
-use Rattle.std.proofs.lemmas.Bool.{cases_eq, cases_order}
-use Rattle.std.proofs.lemmas.Bool.Decides.{nat_tests}
+use Rattle.std.proofs.Common.{◌≡◌, ℕ, zero, suc, ◌+◌, ◌<◌, true, false, ◌⊎◌, length, Some, None, Option, sym, refl, ap, ◌∙◌, subst, inl, inr, arith}
+use Rattle.std.proofs.lemmas.Bool.{cases_order}
 use Rattle.tables.specs.Stations.{Station}
 use Rattle.rules.specs.Activity.{Configuration, Active, RaceFree}
-use Rattle.lookups.specs.Lookups.{module_at, mode_at, task_at, is_abstract, mode_of, module_of, owner_of}
+use Rattle.lookups.specs.Lookups.{mode_at, task_at, is_abstract, mode_of, module_of, owner_of}
 use Rattle.rules.specs.Rules.{writes_to}
 
 -- what the rules give, in the words of tasks

@@ -1,5 +1,5 @@
 -- What tables that keep every rule promise to whoever reads them.
-use Rattle.std.specs.Prelude.{◌≡◌, ℕ, ◌<◌, ◌≤◌, true, false, length, Some, None, Option, ◌≢◌, nat_eq}
+use Rattle.std.specs.Prelude.{◌≡◌, ℕ, ◌<◌, length, Some, None, ◌≢◌, nat_eq}
 use Rattle.tables.specs.Stations.{Station}
 use Rattle.rules.specs.Activity.{RaceFree}
 use Rattle.levels.specs.Levels.{Level, meetings, Over}

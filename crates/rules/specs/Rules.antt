@@ -9,7 +9,7 @@ use Rattle.tables.specs.declared.records.Form.{Form}
 use Rattle.tables.specs.declared.records.Form.TheVariants.{Concrete, Abstract, Unlisted as Odd}
 use Rattle.tables.specs.declared.records.Place.{Place}
 use Rattle.tables.specs.declared.records.Place.TheVariants.{Communicator, Module, Mode, Task, Read, Write, Dependency, Switch}
-use Rattle.levels.specs.Levels.{meets, same_owner}
+use Rattle.levels.specs.Levels.{meets}
 use Rattle.lookups.specs.Lookups.{communicator_at, module_at, mode_at, task_at, read_at, write_at, dependency_at, switch_at, is_number, is_none, is_abstract, mode_of, module_of, owner_of}
 use Rattle.lookups.specs.Searches.{any, every, tally}
 use Rattle.windows.specs.Windows.{opening, end}

@@ -1,5 +1,5 @@
 -- Modules, the programs that they form, and which of them are active.
-use Rattle.std.specs.Prelude.{ℕ, zero, suc, Bool, true, false, cond, ◌||◌, List, length, Some, None, filter, Option, ◌==◌, slice_index_or}
+use Rattle.std.specs.Prelude.{ℕ, zero, suc, Bool, false, cond, ◌||◌, List, length, Some, None, filter, Option, ◌==◌, slice_index_or}
 use Rattle.std.specs.List.{range_with_len}
 use Rattle.tables.specs.Stations.{Station}
 use Rattle.levels.specs.Levels.{same_owner}

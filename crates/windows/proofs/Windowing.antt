@@ -1,12 +1,12 @@
 -- Openings and ends as they are known to a station's author: each by those of the tasks beside it.
-use Rattle.std.proofs.Common.{◌≡◌, ℕ, zero, suc, ◌+◌, ◌-◌, ◌<◌, ◌≤◌, Bool, true, false, cond, eqb, ◌≢◌, List, length, get_or, set, replicate, sym, refl, ap, ◌∙◌, inl, inr, arith}
+use Rattle.std.proofs.Common.{◌≡◌, ℕ, zero, suc, ◌+◌, ◌-◌, ◌<◌, ◌≤◌, eqb, length, get_or, set, sym, refl, ap, ◌∙◌, inl, inr, arith}
 use Rattle.std.proofs.lemmas.List.{get_or-set_same, get_or-set_other, length-set}
-use Rattle.std.proofs.lemmas.Bool.{cases_Bool, cases_eq, eqb-true}
+use Rattle.std.proofs.lemmas.Bool.{cases_eq, eqb-true}
 use Rattle.tables.specs.Stations.{Station}
 use Rattle.lookups.specs.Lookups.{dependency_at}
 use Rattle.lookups.specs.Searches.{largest, smallest}
 use Rattle.lookups.proofs.Searching.{largest_same, smallest_same}
-use Rattle.windows.specs.Windows.{release_offset, write_offset, opening_by, end_by, openings_to, ends_to, openings, ends, opening, end}
+use Rattle.windows.specs.Windows.{release_offset, write_offset, opening_by, end_by, openings_to, ends_to, opening, end}
 
 openings_long : (s : Station) (n : ℕ) → length (openings_to s n) ≡ 64
 unfolding openings_to

@@ -1,5 +1,5 @@
 -- When a task may be out: from its opening to its end, counted from the start of its mode's round.
-use Rattle.std.specs.Prelude.{ℕ, zero, suc, ◌-◌, Bool, List, length, replicate, nat_eq, slice_index, slice_set}
+use Rattle.std.specs.Prelude.{ℕ, zero, suc, ◌-◌, List, length, replicate, nat_eq, slice_index, slice_set}
 use Rattle.tables.specs.Stations.{Station}
 use Rattle.lookups.specs.Lookups.{mode_at, read_at, write_at, dependency_at, mode_of}
 use Rattle.lookups.specs.Searches.{largest, smallest}

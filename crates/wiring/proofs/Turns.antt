@@ -1,6 +1,6 @@
 -- Sensing and driving one communicator more.
 use Rattle.std.proofs.Common.{◌≡◌, ℕ, ◌+◌, cond, List, [], ◌∷◌, ◌++◌, get_or, set, ℤ, pos, refl, add-one}
-use Rattle.plant.specs.Acts.{Act, Drive}
+use Rattle.plant.specs.Acts.{Drive}
 use Rattle.tables.specs.declared.records.Communicator.{Communicator}
 use Rattle.wiring.specs.Due.{due_sensor, due_actuator, sensed, drives}
 

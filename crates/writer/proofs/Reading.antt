@@ -1,5 +1,5 @@
 -- Written records are read back one after another.
-use Rattle.std.proofs.Common.{◌≡◌, ℕ, zero, suc, ◌+◌, ◌<◌, ◌≤◌, true, cond, List, [], ◌∷◌, ◌++◌, length, drop, Ok, Err, sym, refl, ap, ◌∙◌, add-one, arith}
+use Rattle.std.proofs.Common.{◌≡◌, ℕ, zero, suc, ◌<◌, ◌≤◌, cond, List, [], ◌∷◌, length, drop, Ok, Err, sym, refl, ap, ◌∙◌, add-one, arith}
 use Rattle.fault.specs.declared.Fault.TheVariants.{TooMany}
 use Rattle.format.proofs.Forth.{read_again, bytes_size}
 use Rattle.format.specs.Records.{record_bytes, record_read, size, station_bytes}
@@ -8,7 +8,7 @@ use Rattle.reader.proofs.Stepping.{in_order}
 use Rattle.reader.proofs.Walking.{walk_over, walk_on, size_some}
 use Rattle.reader.specs.Steps.{Standing, ordered, next_record, past}
 use Rattle.reader.specs.Walks.{walked, outset, records}
-use Rattle.std.proofs.lemmas.List.{append-nil, drop_at, length-append}
+use Rattle.std.proofs.lemmas.List.{drop_at, length-append}
 use Rattle.std.specs.List.{flat_map, AllByRecursion as All}
 use Rattle.tables.specs.Kinds.{kind_of, rank}
 use Rattle.tables.specs.Stations.{Station, empty, with_record, rows, Few}

@@ -1,6 +1,5 @@
 -- There is room for the bytes of every station.
-use Rattle.std.proofs.Common.{◌≡◌, ℕ, zero, suc, ◌+◌, ◌*◌, ◌<◌, ◌≤◌, Bool, true, cond, leb, List, [], ◌∷◌, ◌++◌, map, length, get_or, take, Some, None, Option, sym, refl, ap, ◌∙◌, subst, mul-suc, arith}
-use Rattle.format.proofs.Forth.{bytes_size}
+use Rattle.std.proofs.Common.{◌≡◌, ℕ, zero, suc, ◌+◌, ◌*◌, ◌<◌, ◌≤◌, Bool, true, cond, leb, List, [], ◌∷◌, ◌++◌, map, length, get_or, take, Some, None, sym, refl, ap, ◌∙◌, mul-suc, arith}
 use Rattle.format.specs.Records.{record_bytes, station_bytes}
 use Rattle.std.proofs.lemmas.List.{append-nil, flat_map_more, length-append, take_more}
 use Rattle.std.proofs.lemmas.Option.{slice_get-get_or}

@@ -1,11 +1,10 @@
-use Rattle.std.proofs.Common.{◌≡◌, ℕ, ◌<◌, ◌≤◌, length, take, is_ok, sym, ap, ◌∙◌, subst, arith}
+use Rattle.std.proofs.Common.{◌≡◌, ◌<◌, ◌≤◌, length, take, is_ok, sym, ap, ◌∙◌, subst, arith}
 use Rattle.bounded.specs.Items.{items}
 use Rattle.format.specs.Records.{record_bytes}
 use Rattle.format.specs.Sound.{FitsWidths}
 use Rattle.reader.specs.Walks.{records}
 use Rattle.std.proofs.ByRecursion.{All-push}
 use Rattle.std.proofs.lemmas.List.{take_all}
-use Rattle.std.proofs.lemmas.Option.{slice_get-get_or}
 use Rattle.std.specs.List.{flat_map, AllByRecursion as All}
 use Rattle.tables.specs.Stations.{station, rows}
 use Rattle.writer.proofs.Reading.{station_again}

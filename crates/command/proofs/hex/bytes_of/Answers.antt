@@ -1,6 +1,6 @@
-use Rattle.std.proofs.Common.{◌≡◌, ℕ, ◌+◌, ◌<◌, ◌≤◌, List, [], ◌∷◌, ◌++◌, length, get_or, Some, None, vec_items, sym, ap, ◌∙◌, arith, rules}
+use Rattle.std.proofs.Common.{◌≡◌, ◌+◌, [], ◌∷◌, ◌++◌, get_or, Some, None, vec_items, sym, ap, ◌∙◌, arith, rules}
 use Rattle.command.specs.Hex.{bytes_spelt, pair_value}
-use Rattle.command.proofs.Spelling.{spelt_more, spelt_wrong, spelt_left, spelt_all, spelt_start}
+use Rattle.command.proofs.Spelling.{spelt_more, spelt_wrong, spelt_left, spelt_all}
 use Rattle.command.proofs.hex.bytes_of.Goals as goal
 
 pub returns-then-letters-at-lt2 : goal.returns-then-letters-at-lt2

@@ -1,4 +1,4 @@
-use Rattle.std.proofs.Common.{length, drop, sym, ap, ◌∙◌, arith}
+use Rattle.std.proofs.Common.{drop, sym, ap, ◌∙◌}
 use Rattle.format.specs.Records.{size}
 use Rattle.reader.proofs.Stepping.{step_some}
 use Rattle.reader.specs.Steps.{standing}

@@ -1,5 +1,5 @@
-use Rattle.std.proofs.Common.{Err, sym, ap, ◌∙◌}
-use Rattle.reader.proofs.Walking.{walk_done, walk_refused, walk_full, walk_stored, walk_falls, Took, took}
+use Rattle.std.proofs.Common.{Err, ap, ◌∙◌}
+use Rattle.reader.proofs.Walking.{walk_done, walk_refused, walk_full, walk_stored, walk_falls, took}
 use Rattle.reader.specs.Steps.{standing}
 use Rattle.reader.specs.Walks.{outcome}
 use Rattle.std.proofs.lemmas.Result.{err_from_is_err_and}

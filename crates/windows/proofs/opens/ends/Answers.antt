@@ -1,4 +1,4 @@
-use Rattle.std.proofs.Common.{◌≡◌, suc, ◌-◌, length, sym, refl, ap, arith}
+use Rattle.std.proofs.Common.{length, sym, refl, ap, arith}
 use Rattle.tables.specs.Stations.{station}
 use Rattle.windows.proofs.Filling.{ends_start, ends_more}
 use Rattle.windows.proofs.opens.ends.Goals as goal

@@ -1,4 +1,4 @@
-use Rattle.std.proofs.Common.{◌≡◌, ℕ, eqb, length, get_or, ap, ◌∙◌, arith, rules}
+use Rattle.std.proofs.Common.{◌≡◌, eqb, length, get_or, ap, ◌∙◌, arith, rules}
 use Rattle.tables.specs.Stations.{station}
 use Rattle.lookups.proofs.Searching.{largest_none, largest_more}
 use Rattle.lookups.specs.Lookups.{dependency_at}

@@ -2,7 +2,7 @@ use Rattle.std.proofs.Common.{◌≡◌, eqb, get_or}
 use Rattle.tables.specs.Stations.{station}
 use Rattle.lookups.specs.Lookups.{dependency_at}
 use Rattle.lookups.specs.Searches.{largest}
-use Rattle.windows.specs.Windows.{release_offset, write_offset}
+use Rattle.windows.specs.Windows.{release_offset}
 use Rattle.windows.proofs.opens.opening_by.Given as goal
 
 abbrev pub invariant-loop-j : goal.invariant-loop-j

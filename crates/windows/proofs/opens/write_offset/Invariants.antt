@@ -1,8 +1,7 @@
-use Rattle.std.proofs.Common.{◌≡◌, eqb, get_or}
+use Rattle.std.proofs.Common.{◌≡◌, eqb}
 use Rattle.tables.specs.Stations.{station}
 use Rattle.lookups.specs.Lookups.{write_at, mode_at, mode_of}
 use Rattle.lookups.specs.Searches.{smallest}
-use Rattle.windows.specs.Windows.{release_offset, write_offset}
 use Rattle.windows.proofs.opens.write_offset.Given as goal
 
 abbrev pub invariant-loop-j : goal.invariant-loop-j
