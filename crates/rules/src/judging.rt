@@ -12,6 +12,7 @@ use crate::refinement::well_refined;
 use crate::timing::well_timed;
 use crate::writers::writes_alone;
 use fault::{Fault, Rule};
+use lookups::item;
 use tables::{Place, Tables};
 use windows::Windows;
 
@@ -21,7 +22,7 @@ fn opens_in_time(tables: &Tables, windows: &Windows, at: Place) -> bool
     ensures { result ≡ opens_in_time (station tables.now) at }
 {
     match at {
-        Place::Task(i) => windows.opening(i) < windows.end(i),
+        Place::Task(i) => item(&windows.openings, i, 0) < item(&windows.ends, i, 0),
         Place::Communicator(_)
         | Place::Module(_)
         | Place::Mode(_)

@@ -10,3 +10,4 @@ mod timing;
 mod writers;
 
 pub use judging::check;
+pub use windows::Windows;
