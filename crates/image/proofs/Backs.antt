@@ -5,7 +5,7 @@ use Rattle.fault.specs.declared.Fault.TheVariants.{NoImage}
 use Rattle.std.proofs.ByRecursion.{All-drop}
 use Rattle.std.proofs.lemmas.List.{length-map, length-drop, take_at}
 use Rattle.std.proofs.lemmas.Bool.{and_parts, and_from, eqb-true, eq-eqb, cond-true}
-use Rattle.std.specs.List.{flat_map, AllByRecursion as All}
+use Rattle.std.specs.List.{flat_map, AllByRecursion}
 use Rattle.code.specs.declared.instructions.Instruction.{Instruction}
 use Rattle.code.specs.declared.instructions.Opcode.{Opcode}
 use Rattle.code.specs.declared.instructions.Operand.{Operand}
@@ -144,7 +144,7 @@ unfolding known
 known_first o os w e = ap (λ x. known (x ∷ os)) e
 
 -- bytes that are read as words are the cells of those
-cells_back : (k j : ℕ) (bs : List ℕ) → length bs ≡ 6 * k → All (λ b. b < 256) bs → unmet is_some j (words_in bs) ≡ None → flat_map cell (known (words_in bs)) ≡ bs
+cells_back : (k j : ℕ) (bs : List ℕ) → length bs ≡ 6 * k → AllByRecursion (λ b. b < 256) bs → unmet is_some j (words_in bs) ≡ None → flat_map cell (known (words_in bs)) ≡ bs
 unfolding words_in known
 cells_back zero j [] h s e = refl
 cells_back zero j (m ∷ bs) h s e = absurd (omega arith)
@@ -165,7 +165,7 @@ headed_length : (bs : List ℕ) → headed bs ≡ true → length bs ≡ image_l
 headed_length bs h = eqb-true (length bs) (image_length (count_in bs)) (and_parts _ (eqb (length bs) (image_length (count_in bs))) h).1
 
 -- a right head is that of its count
-head_back : (bs : List ℕ) → headed bs ≡ true → All (λ b. b < 256) bs → head_of (count_in bs) ++ drop 4 bs ≡ bs
+head_back : (bs : List ℕ) → headed bs ≡ true → AllByRecursion (λ b. b < 256) bs → head_of (count_in bs) ++ drop 4 bs ≡ bs
 head_back (x ∷ y ∷ a ∷ b ∷ bs) h s =
     let p = and_parts (eqb x 72 && eqb y 69) _ h in
     let q = and_parts (eqb x 72) (eqb y 69) p.0 in
@@ -191,7 +191,7 @@ verdict_ok None ys xs e = (refl, (let same : ys ≡ xs = cc in same))
 verdict_ok (Some p) ys xs e = let z : ◌≡◌ {A = ℕ} 0 1 = cc in absurd (omega arith)
 
 -- the words and the head give the bytes again
-whole_back : (bs : List ℕ) (ws : List Word) (xs : List Instruction) → All (λ b. b < 256) bs → headed bs ≡ true → unmet is_some 0 (words_in (drop 4 bs)) ≡ None → ws ≡ known (words_in (drop 4 bs)) → broken (length ws) ws ≡ None → map instruction_of ws ≡ xs → image_of xs ≡ bs
+whole_back : (bs : List ℕ) (ws : List Word) (xs : List Instruction) → AllByRecursion (λ b. b < 256) bs → headed bs ≡ true → unmet is_some 0 (words_in (drop 4 bs)) ≡ None → ws ≡ known (words_in (drop 4 bs)) → broken (length ws) ws ≡ None → map instruction_of ws ≡ xs → image_of xs ≡ bs
 whole_back bs ws xs s h c w b x =
     let q = none_passed (closed (length ws) ws) (unmet (legal (length ws)) 0 ws) 0 b in
     let size : length bs ≡ image_length (count_in bs) = headed_length bs h in
@@ -215,7 +215,7 @@ pub one_image : OneImage
 one_image bs cs xs s t e f = sym (written_back bs xs s e) ∙ written_back cs xs t f
 
 -- the bytes of a store that was read
-pub store_back : (r : Result CodeStore Fault) (bs : List ℕ) → All (λ b. b < 256) bs → held r ≡ read_image bs → IfOk r (λ s. image_of (instructions s) ≡ bs)
+pub store_back : (r : Result CodeStore Fault) (bs : List ℕ) → AllByRecursion (λ b. b < 256) bs → held r ≡ read_image bs → IfOk r (λ s. image_of (instructions s) ≡ bs)
 store_back (Ok s) bs a e = written_back bs (instructions s) a (sym e)
 store_back (Err f) bs a e = tt
 

@@ -1,6 +1,6 @@
 -- Code and image determine each other.
 use Rattle.std.specs.Prelude.{◌≡◌, ℕ, ◌<◌, List, length, Ok}
-use Rattle.std.specs.List.{AllByRecursion as All}
+use Rattle.std.specs.List.{AllByRecursion}
 use Rattle.code.specs.declared.instructions.Instruction.{Instruction}
 use Rattle.code.specs.Promises.{Sound}
 use Rattle.image.specs.Images.{image_of, read_image}
@@ -11,7 +11,7 @@ ReadBack = (xs : List Instruction) → Sound (length xs) xs → read_image (imag
 
 -- Bytes that are read as a code are its image.
 abbrev pub WrittenBack : Type 0
-WrittenBack = (bs : List ℕ) (xs : List Instruction) → All (λ b. b < 256) bs → read_image bs ≡ Ok xs → image_of xs ≡ bs
+WrittenBack = (bs : List ℕ) (xs : List Instruction) → AllByRecursion (λ b. b < 256) bs → read_image bs ≡ Ok xs → image_of xs ≡ bs
 
 -- Codes with one image are one code.
 abbrev pub OneCode : Type 0
@@ -19,4 +19,4 @@ OneCode = (xs ys : List Instruction) → Sound (length xs) xs → Sound (length 
 
 -- Bytes that are read as one code are the same bytes.
 abbrev pub OneImage : Type 0
-OneImage = (bs cs : List ℕ) (xs : List Instruction) → All (λ b. b < 256) bs → All (λ b. b < 256) cs → read_image bs ≡ Ok xs → read_image cs ≡ Ok xs → bs ≡ cs
+OneImage = (bs cs : List ℕ) (xs : List Instruction) → AllByRecursion (λ b. b < 256) bs → AllByRecursion (λ b. b < 256) cs → read_image bs ≡ Ok xs → read_image cs ≡ Ok xs → bs ≡ cs

@@ -11,7 +11,7 @@ use Rattle.std.proofs.ByRecursion.{All-push}
 use Rattle.std.proofs.lemmas.List.{append_assoc, append-nil, get_or-drop, flat_map_more, length-drop, nil_from_length, take-append-drop}
 use Rattle.std.proofs.lemmas.Bool.{cases_Bool, cases_lt}
 use Rattle.std.proofs.lemmas.Bool.Decides.{leb_tells}
-use Rattle.std.specs.List.{flat_map, AllByRecursion as All}
+use Rattle.std.specs.List.{flat_map, AllByRecursion}
 use Rattle.tables.proofs.Order.{UpTo, up_to_empty, up_to_with, rows_with}
 use Rattle.tables.specs.Kinds.{kind_of, rank}
 use Rattle.tables.specs.Stations.{Station, empty, has_room, with_record, rows}
@@ -58,10 +58,10 @@ bytes_with at s r none h =
 
 -- what a walk came to has the bytes from before and all bytes left
 abbrev HasBytes : Standing → Station → Station → Type 0
-HasBytes at s s' = (station_bytes s' ≡ station_bytes s ++ at.left) × All PlainFields (rows s')
+HasBytes at s s' = (station_bytes s' ≡ station_bytes s ++ at.left) × AllByRecursion PlainFields (rows s')
 
 over_exact :
-    (k : ℕ) (at : Standing) (s s' : Station) → walked k at s ≡ Ok s' → length at.left ≡ 0 → All PlainFields (rows s) → HasBytes at s s'
+    (k : ℕ) (at : Standing) (s s' : Station) → walked k at s ≡ Ok s' → length at.left ≡ 0 → AllByRecursion PlainFields (rows s) → HasBytes at s s'
 over_exact k at s s' e h plain =
     let over = walk_over k at s h in
     let same : s ≡ s' = cc in
@@ -69,7 +69,7 @@ over_exact k at s s' e h plain =
 
 pub walk_exact :
     (k : ℕ) (at : Standing) (s s' : Station)
-    → walked k at s ≡ Ok s' → length at.left ≤ k → Bytes at.left → UpTo at.last s → All PlainFields (rows s) → HasBytes at s s'
+    → walked k at s ≡ Ok s' → length at.left ≤ k → Bytes at.left → UpTo at.last s → AllByRecursion PlainFields (rows s) → HasBytes at s s'
 walk_exact zero at s s' e h b none plain = over_exact zero at s s' e (omega arith) plain
 walk_exact (suc k) at s s' e h b none plain =
     elim (cases_lt 0 (length at.left)) [
@@ -81,8 +81,8 @@ walk_exact (suc k) at s s' e h b none plain =
           let n = size (kind_of r) in
           let ord = in_order at (record_read at.left) r more.1 in
           let read = subst (format.WrittenAgain at.left) ord.0 (written_again at.left b) in
-          let plain_with : All PlainFields (rows (with_record s r)) =
-          subst (All PlainFields) (sym (rows_with at.last s r none ord.1)) (All-push PlainFields (rows s) r plain read.2) in
+          let plain_with : AllByRecursion PlainFields (rows (with_record s r)) =
+          subst (AllByRecursion PlainFields) (sym (rows_with at.last s r none ord.1)) (All-push PlainFields (rows s) r plain read.2) in
           let rest =
           walk_exact k (past at r) (with_record s r) s' more.2
           (omega (arith, h, length-drop n at.left, size_some (kind_of r)))

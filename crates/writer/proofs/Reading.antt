@@ -9,7 +9,7 @@ use Rattle.reader.proofs.Walking.{walk_over, walk_on, size_some}
 use Rattle.reader.specs.Steps.{Standing, ordered, next_record, past}
 use Rattle.reader.specs.Walks.{walked, outset, records}
 use Rattle.std.proofs.lemmas.List.{drop_at, length-append}
-use Rattle.std.specs.List.{flat_map, AllByRecursion as All}
+use Rattle.std.specs.List.{flat_map, AllByRecursion}
 use Rattle.tables.specs.Kinds.{kind_of, rank}
 use Rattle.tables.specs.Stations.{Station, empty, with_record, rows, Few}
 use Rattle.tables.specs.declared.records.Record.{Record}
@@ -24,7 +24,7 @@ fewer_records (r ∷ rs) =
 -- a walk over the bytes of records stores them all
 pub walk_rows :
     (k : ℕ) (at : Standing) (s : Station) (rs : List Record)
-    → at.left ≡ flat_map record_bytes rs → length rs ≤ k → All FitsWidths rs → All PlainFields rs → Ascends at.last rs → Roomy s rs
+    → at.left ≡ flat_map record_bytes rs → length rs ≤ k → AllByRecursion FitsWidths rs → AllByRecursion PlainFields rs → Ascends at.last rs → Roomy s rs
     → walked k at s ≡ Ok (with_records s rs)
 walk_rows k at s [] e h fits plain up room = walk_over k at s (ap length e)
 walk_rows zero at s (r ∷ rs) e h fits plain up room = absurd (omega arith)
@@ -40,7 +40,7 @@ walk_rows (suc k) at s (r ∷ rs) e h fits plain up room =
     ∙ walk_rows k (past at r) (with_record s r) rs left (omega arith) fits.1 plain.1 up.1 room.1
 
 -- the bytes of a station are read as that station
-pub station_again : (s : Station) → Few s → All FitsWidths (rows s) → All PlainFields (rows s) → records (station_bytes s) ≡ Ok s
+pub station_again : (s : Station) → Few s → AllByRecursion FitsWidths (rows s) → AllByRecursion PlainFields (rows s) → records (station_bytes s) ≡ Ok s
 station_again s few fits plain =
     walk_rows (length (station_bytes s)) (outset (station_bytes s)) empty (rows s) refl (fewer_records (rows s)) fits plain (rows_ascend s) (rows_roomy s few)
     ∙ ap Ok (rows_rebuilt s)

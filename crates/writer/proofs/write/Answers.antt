@@ -5,7 +5,7 @@ use Rattle.format.specs.Sound.{FitsWidths}
 use Rattle.reader.specs.Walks.{records}
 use Rattle.std.proofs.ByRecursion.{All-push}
 use Rattle.std.proofs.lemmas.List.{take_all}
-use Rattle.std.specs.List.{flat_map, AllByRecursion as All}
+use Rattle.std.specs.List.{flat_map, AllByRecursion}
 use Rattle.tables.specs.Stations.{station, rows}
 use Rattle.writer.proofs.Reading.{station_again}
 use Rattle.writer.proofs.Room.{front_more, turn_adds, there_is}
@@ -22,7 +22,7 @@ loop-number-preserved c =
           let r = w.in-Some.«record» in (
             ap items w.out-is
                 ∙ turn_adds s n r (items c.loop-number.out) (items w.append.new.out) (is_ok w.append.result) c.count-number-end.ensures.few inside w.in-Some.ensures c.loop-number.invariant.0 w.append.ensures.value w.append.ensures.after,
-            subst (All FitsWidths) (sym (front_more (rows s) n r inside w.in-Some.ensures)) (All-push FitsWidths (take n (rows s)) r c.loop-number.invariant.1 w.append.ensures.fits),
+            subst (AllByRecursion FitsWidths) (sym (front_more (rows s) n r inside w.in-Some.ensures)) (All-push FitsWidths (take n (rows s)) r c.loop-number.invariant.1 w.append.ensures.fits),
           )
       | in_default w ↦ absurd (there_is (rows s) n inside w.in_default.ensures)
     ]
@@ -35,5 +35,5 @@ returns c =
     let bytes = c.loop-number.invariant.0 ∙ ap (flat_map record_bytes) all in
     record {
       bytes = bytes;
-      again = λ plain. ap records bytes ∙ station_again s c.count-number-end.ensures.few (subst (All FitsWidths) all c.loop-number.invariant.1) plain;
+      again = λ plain. ap records bytes ∙ station_again s c.count-number-end.ensures.few (subst (AllByRecursion FitsWidths) all c.loop-number.invariant.1) plain;
     }
