@@ -3,7 +3,7 @@ ghost use Rattle.std.specs.Prelude.{◌≡◌, ◌+◌, ◌++◌, length, is_ok,
 ghost use Rattle.bounded.specs.Items.{items};
 ghost use Rattle.tables.specs.Kinds.{kind_of};
 ghost use Rattle.format.specs.Fields.{byte_or_none, use_byte, form_byte};
-ghost use Rattle.format.specs.Records.{mark as mark_of, size as type_size, record_bytes};
+ghost use Rattle.format.specs.Records.{mark as mark_of, size as size_of, record_bytes};
 ghost use Rattle.format.specs.Sound.{FitsWidths};
 ghost use Rattle.format.specs.Promises.{ReadAgain};
 
@@ -28,7 +28,7 @@ pub fn mark(kind: Kind) -> [u8; 2]
 
 // How many bytes a record of a kind has, its mark included.
 pub fn size(kind: Kind) -> usize
-    ensures { result ≡ type_size kind }
+    ensures { result ≡ size_of kind }
 {
     match kind {
         Kind::Communicators => 9,

@@ -1,7 +1,7 @@
 // The tank stand.
 ghost use Rattle.std.specs.Prelude.{◌≡◌, replicate, pos, ◌+ℤ◌};
 ghost use Rattle.stands.specs.Stands.{held, tank_means};
-ghost use Rattle.std.proofs.Common.{rules, arith};
+ghost use Rattle.std.proofs.Common.{rules};
 
 use crate::Tank;
 use crate::outputs::*;
@@ -36,13 +36,13 @@ impl Tank {
 impl Plant for Tank {
     ghost means = { λ t. tank_means t.levels t.outputs };
 
-    ghost drives = { first_of (Prim.search rules, Prim.grind (arith, Self.row.coded.inj)) };
+    ghost drives = { Prim.search rules };
 
-    ghost passes = { first_of (Prim.search rules, Prim.grind (arith, Self.row.coded.inj)) };
+    ghost passes = { Prim.search rules };
 
-    ghost silent = { first_of (Prim.search rules, Prim.grind (arith, Self.row.coded.inj)) };
+    ghost silent = { Prim.search rules };
 
-    ghost inert = { first_of (Prim.search rules, Prim.grind (arith, Self.row.coded.inj)) };
+    ghost inert = { Prim.search rules };
 
     fn sense(&self, i: u8) -> i32 {
         if i < 3 { self.levels[i as usize] } else { 0 }

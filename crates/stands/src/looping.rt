@@ -1,7 +1,7 @@
 // The loop-back rack.
 ghost use Rattle.std.specs.Prelude.{◌≡◌, replicate, pos};
 ghost use Rattle.stands.specs.Stands.{rack_means};
-ghost use Rattle.std.proofs.Common.{rules, arith};
+ghost use Rattle.std.proofs.Common.{rules};
 
 use crate::Rack;
 use crate::outputs::*;
@@ -22,13 +22,13 @@ impl Rack {
 impl Plant for Rack {
     ghost means = { λ t. rack_means t.wires t.outputs };
 
-    ghost drives = { first_of (Prim.search rules, Prim.grind (arith, Self.row.coded.inj)) };
+    ghost drives = { Prim.search rules };
 
-    ghost passes = { first_of (Prim.search rules, Prim.grind (arith, Self.row.coded.inj)) };
+    ghost passes = { Prim.search rules };
 
-    ghost silent = { first_of (Prim.search rules, Prim.grind (arith, Self.row.coded.inj)) };
+    ghost silent = { Prim.search rules };
 
-    ghost inert = { first_of (Prim.search rules, Prim.grind (arith, Self.row.coded.inj)) };
+    ghost inert = { Prim.search rules };
 
     fn sense(&self, i: u8) -> i32 {
         if i < 32 {

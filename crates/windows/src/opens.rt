@@ -1,7 +1,7 @@
 // When a task may be out.
 ghost use Rattle.std.specs.Prelude.{◌≡◌, length, slice_index};
 ghost use Rattle.tables.specs.Stations.{station};
-ghost use Rattle.windows.specs.Windows.{release_offset, write_offset, opening_by, end_by, openings as openings-of, ends as ends_of};
+ghost use Rattle.windows.specs.Windows.{release_offset, write_offset, opening_by, end_by, openings as openings_of, ends as ends_of};
 
 use crate::Windows;
 use lookups::*;
@@ -65,7 +65,7 @@ fn end_by(tables: &Tables, ends: &[u16], t: usize) -> u16
 
 // The openings of all tasks, ascending.
 fn openings(tables: &Tables) -> [u16; 64]
-    ensures { result ≡ openings-of (station tables.now) }
+    ensures { result ≡ openings_of (station tables.now) }
 {
     let mut known = [0; 64];
     for t in 0..tables.tasks().len() {
@@ -90,7 +90,7 @@ fn ends(tables: &Tables) -> [u16; 64]
 impl Windows {
     // The openings and ends of all tasks.
     pub fn of(tables: &Tables) -> Windows
-        ensures { (result.openings ≡ openings-of (station tables.now)) × (result.ends ≡ ends_of (station tables.now)) }
+        ensures { (result.openings ≡ openings_of (station tables.now)) × (result.ends ≡ ends_of (station tables.now)) }
     {
         Windows {
             openings: openings(tables),
