@@ -1,5 +1,4 @@
 // The law body.
-ghost use Rattle.std.specs.Prelude.{eqb};
 ghost use Rattle.bodies.specs.Bodies.{law_works, law_tests};
 
 use crate::Law;

@@ -17,7 +17,7 @@ fn same_owner(a: Option<u8>, b: Option<u8>) -> bool
 }
 
 // The walk down the program of an owner meets a module.
-#[cycle(mode_meets_module_meets_program_meets)]
+#[cycle(walk_down)]
 pub fn program_meets(tables: &Tables, target: usize, levels: u8, owner: Option<u8>) -> bool
     ensures { result ≡ meets (station tables.now) target levels owner }
 {
@@ -33,7 +33,7 @@ pub fn program_meets(tables: &Tables, target: usize, levels: u8, owner: Option<u
 }
 
 // The module is the one, or the walk through its modes meets it.
-#[cycle(mode_meets_module_meets_program_meets)]
+#[cycle(walk_down)]
 fn module_meets(tables: &Tables, target: usize, levels: u8, m: usize) -> bool
     requires { 0 < levels }
     ensures { result ≡ meets_module (station tables.now) target (levels - 1) m }
@@ -50,7 +50,7 @@ fn module_meets(tables: &Tables, target: usize, levels: u8, m: usize) -> bool
 }
 
 // The walk through the program that refines a mode meets it.
-#[cycle(mode_meets_module_meets_program_meets)]
+#[cycle(walk_down)]
 fn mode_meets(tables: &Tables, target: usize, levels: u8, d: u8) -> bool
     requires { 0 < levels }
     ensures { result ≡ meets (station tables.now) target (levels - 1) (Some d) }

@@ -1,7 +1,7 @@
 // What a plant and a body are to the machine.
 #![tactic(auto)]
 
-ghost use Rattle.std.specs.Prelude.{ℕ, ◌<◌, ◌≤◌, eqb, ℤ, pos, Bool, cond, List, [], ◌∷◌, ◌≡◌};
+ghost use Rattle.std.specs.Prelude.{ℕ, ◌<◌, ◌≤◌, ◌==◌, ℤ, pos, Bool, cond, List, [], ◌∷◌, ◌≡◌};
 ghost use Rattle.plant.specs.Acts.{Act, Drive, Pass, Answers};
 
 // A plant is known by its meaning: what its sensors would answer and its outputs show after each list of drives and passes.
@@ -25,7 +25,7 @@ pub trait Plant {
         ensures { (l : List Act) → means self.new l ≡ means self.old (Pass ∷ l) };
 
     // A drive makes that output alone show the value given.
-    ghost drives: { (s : Self) (i j : ℕ) (v : ℤ) → i < 32 → (means s (Drive i v ∷ [])).shown j ≡ cond (eqb j i) v ((means s []).shown j) };
+    ghost drives: { (s : Self) (i j : ℕ) (v : ℤ) → i < 32 → (means s (Drive i v ∷ [])).shown j ≡ cond (j == i) v ((means s []).shown j) };
 
     // A pass changes no output.
     ghost passes: { (s : Self) (j : ℕ) → (means s (Pass ∷ [])).shown j ≡ (means s []).shown j };

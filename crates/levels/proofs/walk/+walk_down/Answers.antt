@@ -5,7 +5,7 @@ use Rattle.levels.proofs.Levelling.{meets_none, meets_is}
 use Rattle.levels.specs.Levels.{meets}
 use Rattle.lookups.specs.Lookups.{mode_at}
 use Rattle.lookups.specs.Searches.{any}
-use Rattle.levels.proofs.walk.+mode_meets_module_meets_program_meets.Goals as goal
+use Rattle.levels.proofs.walk.+walk_down.Goals as goal
 
 pub module_meets-loop-d-init : goal.module_meets-loop-d-init
 module_meets-loop-d-init t c = search (rules, any_none)

@@ -3,7 +3,7 @@ use Rattle.tables.specs.Stations.{station}
 use Rattle.levels.specs.Levels.{same_owner, meets, meets_module}
 use Rattle.lookups.specs.Lookups.{module_at, mode_at}
 use Rattle.lookups.specs.Searches.{any}
-use Rattle.levels.proofs.walk.+mode_meets_module_meets_program_meets.Given as goal
+use Rattle.levels.proofs.walk.+walk_down.Given as goal
 
 -- the levels left fall; within a level, from program to module to mode
 abbrev pub decreases-mode_meets : goal.decreases-mode_meets
