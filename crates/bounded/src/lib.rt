@@ -7,7 +7,7 @@ mod list;
 mod size;
 
 // There is no room for more.
-#[derive(Clone, Copy)]
+#[derive(Clone, Copy, PartialEq, Eq, Debug)]
 pub struct Full;
 
 // The first `len` slots hold the list; what the others hold is never seen.

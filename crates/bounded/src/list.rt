@@ -29,11 +29,7 @@ impl<T: Copy, const N: usize> Bounded<T, N> {
     pub fn get(&self, i: usize) -> Option<T>
         ensures { result ≡ slice_get (items self.now) i }
     {
-        if i < self.len {
-            Some(self.slots[i])
-        } else {
-            None
-        }
+        self.as_slice().get(i).copied()
     }
 
     // One item more at the end; a full list stays as it is.
@@ -58,10 +54,10 @@ impl<T: Copy, const N: usize> Bounded<T, N> {
         if N - self.len < more.len() {
             return Err(Full);
         }
-        for item in more {
-            self.slots[self.len] = *item;
-            self.len += 1;
-        }
+        let end = self.len + more.len();
+        let all: &mut [T] = &mut self.slots;
+        all[self.len..end].copy_from_slice(more);
+        self.len = end;
         Ok(())
     }
 
@@ -70,11 +66,7 @@ impl<T: Copy, const N: usize> Bounded<T, N> {
         ensures value { result ≡ last (items self.old) }
         ensures after { items self.new ≡ take (length (items self.old) - 1) (items self.old) }
     {
-        if self.len == 0 {
-            None
-        } else {
-            self.len -= 1;
-            Some(self.slots[self.len])
-        }
+        self.len = self.len.checked_sub(1)?;
+        Some(self.slots[self.len])
     }
 }

@@ -67,6 +67,17 @@ pub struct Refusal {
 }
 
 impl Rule {
+    // All rules in the order of their numbers.
+    pub const ALL: [Rule; 7] = [
+        Rule::Fields,
+        Rule::Hierarchy,
+        Rule::Timing,
+        Rule::Feeding,
+        Rule::Window,
+        Rule::Refinement,
+        Rule::Writers,
+    ];
+
     // The rule's number.
     pub fn number(self) -> u8
         ensures { result ≡ number self }
@@ -89,14 +100,17 @@ impl Fault {
         ensures { result ≡ told self }
     {
         let (part, number, value) = match self {
-            Fault::UnknownMark { record } => (Part::Reader, 1, Some(record)),
-            Fault::CutRecord { record } => (Part::Reader, 1, Some(record)),
-            Fault::OutOfOrder { record } => (Part::Reader, 1, Some(record)),
+            Fault::UnknownMark { record }
+            | Fault::CutRecord { record }
+            | Fault::OutOfOrder { record } => (Part::Reader, 1, Some(record)),
             Fault::TooMany { record } => (Part::Reader, 2, Some(record)),
             Fault::Broken { rule, record } => (Part::Reader, rule.number(), Some(record)),
             Fault::NoImage { place } => (Part::Loader, 10, Some(place)),
-            Fault::BadCode { place } => (Part::Loader, 11, Some(place)),
-            Fault::Unloadable { place } => (Part::Loader, 11, Some(place)),
+            Fault::BadCode { place } | Fault::Unloadable { place } => (
+                Part::Loader,
+                11,
+                Some(place),
+            ),
             Fault::ShortBuffer { needed } => (Part::Generator, 12, Some(needed)),
             Fault::ClockAtEnd => (Part::Machine, 13, None),
             Fault::Overdue { task } => (Part::Machine, 14, Some(task)),

@@ -11,6 +11,18 @@ use bounded::Bounded;
 use fault::Fault;
 
 impl Kind {
+    // All kinds in their order.
+    pub const ALL: [Kind; 8] = [
+        Kind::Communicators,
+        Kind::Modules,
+        Kind::Modes,
+        Kind::Tasks,
+        Kind::Reads,
+        Kind::Writes,
+        Kind::Dependencies,
+        Kind::Switches,
+    ];
+
     // The place in the order of the kinds.
     pub fn rank(self) -> u8
         ensures { result ≡ rank self }
@@ -42,46 +54,14 @@ impl Tables {
         ensures { station result ≡ empty }
     {
         Tables {
-            communicators: Bounded::new(Communicator {
-                period: 0,
-                kind: Use::Plain,
-                initial: 0,
-            }),
-            modules: Bounded::new(Module {
-                owner: None,
-                start: 0,
-            }),
-            modes: Bounded::new(Mode { home: 0, period: 0 }),
-            tasks: Bounded::new(Task {
-                mode: 0,
-                inputs: 0,
-                outputs: 0,
-                parent: None,
-                form: Form::Concrete,
-            }),
-            reads: Bounded::new(Read {
-                task: 0,
-                input: 0,
-                communicator: 0,
-                offset: 0,
-            }),
-            writes: Bounded::new(Write {
-                task: 0,
-                output: 0,
-                communicator: 0,
-                offset: 0,
-            }),
-            dependencies: Bounded::new(Dependency {
-                task: 0,
-                output: 0,
-                to: 0,
-                input: 0,
-            }),
-            switches: Bounded::new(Switch {
-                mode: 0,
-                condition: 0,
-                target: 0,
-            }),
+            communicators: Bounded::new(Communicator::default()),
+            modules: Bounded::new(Module::default()),
+            modes: Bounded::new(Mode::default()),
+            tasks: Bounded::new(Task::default()),
+            reads: Bounded::new(Read::default()),
+            writes: Bounded::new(Write::default()),
+            dependencies: Bounded::new(Dependency::default()),
+            switches: Bounded::new(Switch::default()),
         }
     }
 
@@ -90,21 +70,17 @@ impl Tables {
         ensures value { result ≡ taken_in (station self.old) number «record» }
         ensures after { station self.new ≡ (if has_room (station self.old) «record» then with_record (station self.old) «record» else station self.old) }
     {
-        let full = match record {
-            Record::Communicator(x) => self.communicators.push(x).is_err(),
-            Record::Module(x) => self.modules.push(x).is_err(),
-            Record::Mode(x) => self.modes.push(x).is_err(),
-            Record::Task(x) => self.tasks.push(x).is_err(),
-            Record::Read(x) => self.reads.push(x).is_err(),
-            Record::Write(x) => self.writes.push(x).is_err(),
-            Record::Dependency(x) => self.dependencies.push(x).is_err(),
-            Record::Switch(x) => self.switches.push(x).is_err(),
+        let taken = match record {
+            Record::Communicator(x) => self.communicators.push(x),
+            Record::Module(x) => self.modules.push(x),
+            Record::Mode(x) => self.modes.push(x),
+            Record::Task(x) => self.tasks.push(x),
+            Record::Read(x) => self.reads.push(x),
+            Record::Write(x) => self.writes.push(x),
+            Record::Dependency(x) => self.dependencies.push(x),
+            Record::Switch(x) => self.switches.push(x),
         };
-        if full {
-            Err(Fault::TooMany { record: number })
-        } else {
-            Ok(())
-        }
+        taken.map_err(|_| Fault::TooMany { record: number })
     }
 
     // How many records there are of all kinds.
@@ -126,35 +102,28 @@ impl Tables {
     pub fn place(&self, number: usize) -> Place
         ensures { result ≡ place (station self.now) number }
     {
-        let mut n = number;
-        if n < self.communicators.len() {
+        let n = number;
+        let Some(n) = n.checked_sub(self.communicators.len()) else {
             return Place::Communicator(n);
-        }
-        n -= self.communicators.len();
-        if n < self.modules.len() {
+        };
+        let Some(n) = n.checked_sub(self.modules.len()) else {
             return Place::Module(n);
-        }
-        n -= self.modules.len();
-        if n < self.modes.len() {
+        };
+        let Some(n) = n.checked_sub(self.modes.len()) else {
             return Place::Mode(n);
-        }
-        n -= self.modes.len();
-        if n < self.tasks.len() {
+        };
+        let Some(n) = n.checked_sub(self.tasks.len()) else {
             return Place::Task(n);
-        }
-        n -= self.tasks.len();
-        if n < self.reads.len() {
+        };
+        let Some(n) = n.checked_sub(self.reads.len()) else {
             return Place::Read(n);
-        }
-        n -= self.reads.len();
-        if n < self.writes.len() {
+        };
+        let Some(n) = n.checked_sub(self.writes.len()) else {
             return Place::Write(n);
-        }
-        n -= self.writes.len();
-        if n < self.dependencies.len() {
+        };
+        let Some(n) = n.checked_sub(self.dependencies.len()) else {
             return Place::Dependency(n);
-        }
-        n -= self.dependencies.len();
+        };
         Place::Switch(n)
     }
 
@@ -163,14 +132,14 @@ impl Tables {
         ensures { result ≡ record_at (station self.now) place }
     {
         match place {
-            Place::Communicator(i) => Some(Record::Communicator(self.communicators.get(i)?)),
-            Place::Module(i) => Some(Record::Module(self.modules.get(i)?)),
-            Place::Mode(i) => Some(Record::Mode(self.modes.get(i)?)),
-            Place::Task(i) => Some(Record::Task(self.tasks.get(i)?)),
-            Place::Read(i) => Some(Record::Read(self.reads.get(i)?)),
-            Place::Write(i) => Some(Record::Write(self.writes.get(i)?)),
-            Place::Dependency(i) => Some(Record::Dependency(self.dependencies.get(i)?)),
-            Place::Switch(i) => Some(Record::Switch(self.switches.get(i)?)),
+            Place::Communicator(i) => self.communicators.get(i).map(Record::Communicator),
+            Place::Module(i) => self.modules.get(i).map(Record::Module),
+            Place::Mode(i) => self.modes.get(i).map(Record::Mode),
+            Place::Task(i) => self.tasks.get(i).map(Record::Task),
+            Place::Read(i) => self.reads.get(i).map(Record::Read),
+            Place::Write(i) => self.writes.get(i).map(Record::Write),
+            Place::Dependency(i) => self.dependencies.get(i).map(Record::Dependency),
+            Place::Switch(i) => self.switches.get(i).map(Record::Switch),
         }
     }
 
