@@ -8,125 +8,80 @@ use tables::*;
 pub fn item<T: Copy>(all: &[T], i: usize, blank: T) -> T
     ensures { result ≡ slice_index_or all.now i blank }
 {
-    if i < all.len() { all[i] } else { blank }
+    all.get(i).copied().unwrap_or(blank)
 }
 
 pub fn communicator(tables: &Tables, i: usize) -> Communicator
     ensures { result ≡ communicator_at (station tables.now) i }
 {
-    let blank = Communicator {
-        period: 0,
-        kind: Use::Plain,
-        initial: 0,
-    };
-    item(tables.communicators(), i, blank)
+    item(tables.communicators(), i, Communicator::default())
 }
 
 pub fn module(tables: &Tables, i: usize) -> Module
     ensures { result ≡ module_at (station tables.now) i }
 {
-    let blank = Module {
-        owner: None,
-        start: 0,
-    };
-    item(tables.modules(), i, blank)
+    item(tables.modules(), i, Module::default())
 }
 
 pub fn mode(tables: &Tables, i: usize) -> Mode
     ensures { result ≡ mode_at (station tables.now) i }
 {
-    item(tables.modes(), i, Mode { home: 0, period: 0 })
+    item(tables.modes(), i, Mode::default())
 }
 
 pub fn task(tables: &Tables, i: usize) -> Task
     ensures { result ≡ task_at (station tables.now) i }
 {
-    let blank = Task {
-        mode: 0,
-        inputs: 0,
-        outputs: 0,
-        parent: None,
-        form: Form::Concrete,
-    };
-    item(tables.tasks(), i, blank)
+    item(tables.tasks(), i, Task::default())
 }
 
 pub fn read(tables: &Tables, i: usize) -> Read
     ensures { result ≡ read_at (station tables.now) i }
 {
-    let blank = Read {
-        task: 0,
-        input: 0,
-        communicator: 0,
-        offset: 0,
-    };
-    item(tables.reads(), i, blank)
+    item(tables.reads(), i, Read::default())
 }
 
 pub fn write(tables: &Tables, i: usize) -> Write
     ensures { result ≡ write_at (station tables.now) i }
 {
-    let blank = Write {
-        task: 0,
-        output: 0,
-        communicator: 0,
-        offset: 0,
-    };
-    item(tables.writes(), i, blank)
+    item(tables.writes(), i, Write::default())
 }
 
 pub fn dependency(tables: &Tables, i: usize) -> Dependency
     ensures { result ≡ dependency_at (station tables.now) i }
 {
-    let blank = Dependency {
-        task: 0,
-        output: 0,
-        to: 0,
-        input: 0,
-    };
-    item(tables.dependencies(), i, blank)
+    item(tables.dependencies(), i, Dependency::default())
 }
 
 pub fn switch(tables: &Tables, i: usize) -> Switch
     ensures { result ≡ switch_at (station tables.now) i }
 {
-    let blank = Switch {
-        mode: 0,
-        condition: 0,
-        target: 0,
-    };
-    item(tables.switches(), i, blank)
+    item(tables.switches(), i, Switch::default())
 }
 
 pub fn is_abstract(form: Form) -> bool
     ensures { result ≡ is_abstract form }
 {
-    match form {
-        Form::Abstract => true,
-        Form::Concrete | Form::Unlisted(_) => false,
-    }
+    form == Form::Abstract
 }
 
 // Whether an owner or parent is this one.
 pub fn is_number(number: Option<u8>, i: usize) -> bool
     ensures { result ≡ is_number number i }
 {
-    match number {
-        Some(j) => j as usize == i,
-        None => false,
-    }
+    number.is_some_and(|j| usize::from(j) == i)
 }
 
 // The module that a task lies in.
 pub fn module_of(tables: &Tables, t: usize) -> u8
     ensures { result ≡ module_of (station tables.now) t }
 {
-    mode(tables, task(tables, t).mode as usize).home
+    mode(tables, usize::from(task(tables, t).mode)).home
 }
 
 // The owner of the module that a task lies in.
 pub fn owner_of(tables: &Tables, t: usize) -> Option<u8>
     ensures { result ≡ owner_of (station tables.now) t }
 {
-    module(tables, module_of(tables, t) as usize).owner
+    module(tables, usize::from(module_of(tables, t))).owner
 }

@@ -5,6 +5,7 @@ use Rattle.std.proofs.lemmas.Bool.{cases_eq, eqb-true}
 use Rattle.tables.specs.Stations.{Station}
 use Rattle.lookups.specs.Lookups.{dependency_at}
 use Rattle.lookups.specs.Searches.{largest, smallest}
+use Rattle.lookups.proofs.Listing.{largest_list, smallest_list}
 use Rattle.lookups.proofs.Searching.{largest_same, smallest_same}
 use Rattle.windows.specs.Windows.{release_offset, write_offset, opening_by, end_by, openings_to, ends_to, opening, end}
 
@@ -60,6 +61,7 @@ pub opening_is :
     → opening s t ≡ largest (λ j. eqb (dependency_at s j).to t) (λ j. opening s (dependency_at s j).task) (release_offset s t) (length s.dependencies)
 opening_is s up few t h =
     opening_final s (length s.tasks) t h few
+    ∙ largest_list (λ d. eqb d.to t) (λ d. get_or (openings_to s t) d.task 0) _ (release_offset s t) s.dependencies
     ∙ largest_same (λ j. eqb (dependency_at s j).to t) (λ j. get_or (openings_to s t) (dependency_at s j).task 0) (λ j. opening s (dependency_at s j).task) (release_offset s t) (length s.dependencies)
     (λ j l e.
     let u = (dependency_at s j).task in
@@ -74,6 +76,7 @@ pub end_is :
 end_is s up few t h =
     let n = length s.tasks in
     end_final s n t h (omega arith) (omega arith) few
+    ∙ smallest_list (λ d. eqb d.task t) (λ d. get_or (ends_to s (n - suc t)) d.to 0) _ (write_offset s t) s.dependencies
     ∙ smallest_same (λ j. eqb (dependency_at s j).task t) (λ j. get_or (ends_to s (n - suc t)) (dependency_at s j).to 0) (λ j. end s (dependency_at s j).to) (write_offset s t) (length s.dependencies)
     (λ j l e.
     let u = (dependency_at s j).to in

@@ -1,24 +1,23 @@
 -- When a task may be out: from its opening to its end, counted from the start of its mode's round.
-use Rattle.std.specs.Prelude.{ℕ, zero, suc, ◌-◌, List, length, replicate, nat_eq, slice_index, slice_set}
+use Rattle.std.specs.Prelude.{ℕ, zero, suc, ◌-◌, min, max, List, map, length, replicate, filter, fold, ◌==◌, slice_index, slice_set}
 use Rattle.tables.specs.Stations.{Station}
-use Rattle.lookups.specs.Lookups.{mode_at, read_at, write_at, dependency_at, mode_of}
-use Rattle.lookups.specs.Searches.{largest, smallest}
+use Rattle.lookups.specs.Lookups.{mode_at, mode_of}
 
 -- The latest offset of the reads of a task, or 0.
 abbrev pub release_offset : Station → ℕ → ℕ
-release_offset s t = largest (λ j. nat_eq (read_at s j).task t) (λ j. (read_at s j).offset) 0 (length s.reads)
+release_offset s t = fold max 0 (map (λ r. r.offset) (filter (λ r. r.task == t) s.reads))
 
 -- The earliest offset of the writes of a task, at most its mode's period.
 abbrev pub write_offset : Station → ℕ → ℕ
-write_offset s t = smallest (λ j. nat_eq (write_at s j).task t) (λ j. (write_at s j).offset) (mode_at s (mode_of s t)).period (length s.writes)
+write_offset s t = fold min (mode_at s (mode_of s t)).period (map (λ w. w.offset) (filter (λ w. w.task == t) s.writes))
 
 -- The opening of a task by the openings of others: the largest of its release offset and those of the tasks that it depends on.
 abbrev pub opening_by : Station → List ℕ → ℕ → ℕ
-opening_by s os t = largest (λ j. nat_eq (dependency_at s j).to t) (λ j. slice_index os (dependency_at s j).task) (release_offset s t) (length s.dependencies)
+opening_by s os t = fold max (release_offset s t) (map (λ d. slice_index os d.task) (filter (λ d. d.to == t) s.dependencies))
 
 -- The end of a task by the ends of others: the smallest of its write offsets, its mode's period, and the ends of the tasks that depend on it.
 abbrev pub end_by : Station → List ℕ → ℕ → ℕ
-end_by s es t = smallest (λ j. nat_eq (dependency_at s j).task t) (λ j. slice_index es (dependency_at s j).to) (write_offset s t) (length s.dependencies)
+end_by s es t = fold min (write_offset s t) (map (λ d. slice_index es d.to) (filter (λ d. d.task == t) s.dependencies))
 
 -- The openings of the first n tasks, taken ascending, since a task depends only on tasks of smaller number.
 unfoldable pub openings_to : Station → ℕ → List ℕ

@@ -1,7 +1,7 @@
 // When a task may be out.
-ghost use Rattle.std.specs.Prelude.{◌≡◌, length, slice_index};
+ghost use Rattle.std.specs.Prelude.{◌≡◌, min, max, map, filter, fold, ◌==◌, length, slice_index};
 ghost use Rattle.tables.specs.Stations.{station};
-ghost use Rattle.windows.specs.Windows.{release_offset, write_offset, opening_by, end_by, openings as openings_of, ends as ends_of};
+ghost use Rattle.windows.specs.Windows.{release_offset, write_offset, openings as openings_of, ends as ends_of};
 
 use crate::Windows;
 use lookups::*;
@@ -11,78 +11,76 @@ use tables::Tables;
 pub fn release_offset(tables: &Tables, t: usize) -> u16
     ensures { result ≡ release_offset (station tables.now) t }
 {
-    let mut latest = 0;
-    for j in 0..tables.reads().len() {
-        let x = read(tables, j);
-        if x.task as usize == t {
-            latest = x.offset.max(latest);
-        }
-    }
-    latest
+    tables
+        .reads()
+        .iter()
+        .filter(|read| usize::from(read.task) == t)
+        .map(|read| read.offset)
+        .fold(0, u16::max)
+}
+
+// The earliest of an offset and those of the writes of a task.
+fn earliest_write(tables: &Tables, t: usize, from: u16) -> u16
+    ensures { result ≡ fold min from (map (λ w. w.offset) (filter (λ w. w.task == t) (station tables.now).writes)) }
+{
+    tables
+        .writes()
+        .iter()
+        .filter(|write| usize::from(write.task) == t)
+        .map(|write| write.offset)
+        .fold(from, u16::min)
 }
 
 // The earliest offset of the writes of a task, at most its mode's period.
 fn write_offset(tables: &Tables, t: usize) -> u16
     ensures { result ≡ write_offset (station tables.now) t }
 {
-    let mut earliest = mode(tables, task(tables, t).mode as usize).period;
-    for j in 0..tables.writes().len() {
-        let x = write(tables, j);
-        if x.task as usize == t {
-            earliest = x.offset.min(earliest);
-        }
-    }
-    earliest
+    let home = usize::from(task(tables, t).mode);
+    earliest_write(tables, t, mode(tables, home).period)
 }
 
-// The opening of a task by the openings of those that it depends on.
-fn opening_by(tables: &Tables, openings: &[u16], t: usize) -> u16
-    ensures { result ≡ opening_by (station tables.now) openings.now t }
+// The latest of an offset and the openings of those that a task depends on.
+fn latest_opening(tables: &Tables, openings: &[u16], t: usize, from: u16) -> u16
+    ensures { result ≡ fold max from (map (λ d. slice_index openings.now d.task) (filter (λ d. d.to == t) (station tables.now).dependencies)) }
 {
-    let mut latest = release_offset(tables, t);
-    for j in 0..tables.dependencies().len() {
-        let x = dependency(tables, j);
-        if x.to as usize == t {
-            latest = item(openings, x.task as usize, 0).max(latest);
-        }
-    }
-    latest
+    tables
+        .dependencies()
+        .iter()
+        .filter(|edge| usize::from(edge.to) == t)
+        .map(|edge| item(openings, usize::from(edge.task), 0))
+        .fold(from, u16::max)
 }
 
-// The end of a task by the ends of those that depend on it.
-fn end_by(tables: &Tables, ends: &[u16], t: usize) -> u16
-    ensures { result ≡ end_by (station tables.now) ends.now t }
+// The earliest of an offset and the ends of those that depend on a task.
+fn earliest_end(tables: &Tables, ends: &[u16], t: usize, from: u16) -> u16
+    ensures { result ≡ fold min from (map (λ d. slice_index ends.now d.to) (filter (λ d. d.task == t) (station tables.now).dependencies)) }
 {
-    let mut earliest = write_offset(tables, t);
-    for j in 0..tables.dependencies().len() {
-        let x = dependency(tables, j);
-        if x.task as usize == t {
-            earliest = item(ends, x.to as usize, 0).min(earliest);
-        }
-    }
-    earliest
+    tables
+        .dependencies()
+        .iter()
+        .filter(|edge| usize::from(edge.task) == t)
+        .map(|edge| item(ends, usize::from(edge.to), 0))
+        .fold(from, u16::min)
 }
 
-// The openings of all tasks, ascending.
+// The openings of all tasks, ascending: each is found by those before it in the array that is being filled.
 fn openings(tables: &Tables) -> [u16; 64]
     ensures { result ≡ openings_of (station tables.now) }
 {
     let mut known = [0; 64];
     for t in 0..tables.tasks().len() {
-        known[t] = opening_by(tables, &known, t);
+        known[t] = latest_opening(tables, &known, t, release_offset(tables, t));
     }
     known
 }
 
-// The ends of all tasks, descending.
+// The ends of all tasks, descending: each is found by those after it in the array that is being filled.
 fn ends(tables: &Tables) -> [u16; 64]
     ensures { result ≡ ends_of (station tables.now) }
 {
     let mut known = [0; 64];
-    let count = tables.tasks().len();
-    for k in 0..count {
-        let t = count - (k + 1);
-        known[t] = end_by(tables, &known, t);
+    for t in (0..tables.tasks().len()).rev() {
+        known[t] = earliest_end(tables, &known, t, write_offset(tables, t));
     }
     known
 }

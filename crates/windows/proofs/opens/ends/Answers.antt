@@ -1,10 +1,26 @@
-use Rattle.std.proofs.Common.{length, sym, refl, ap, arith}
+use Rattle.std.proofs.Common.{◌≡◌, ◌+◌, ◌-◌, ◌≤◌, length, sym, refl, ap, ◌∙◌, arith, rules}
 use Rattle.tables.specs.Stations.{station}
+use Rattle.windows.specs.Windows.{ends_to}
 use Rattle.windows.proofs.Filling.{ends_start, ends_more}
 use Rattle.windows.proofs.opens.ends.Goals as goal
 
-pub loop-k-init : goal.loop-k-init
-loop-k-init c = (sym (ends_start (station c.args.tables.now)), refl)
+pub loop-t-init : goal.loop-t-init
+loop-t-init c =
+    let s = station c.args.tables.now in
+    let none : length s.tasks - length c.tasks-t.result.now ≡ 0 = omega (arith, ap length c.tasks-t.ensures.value) in
+    (sym (ap (ends_to s) none ∙ ends_start s), refl)
 
-pub loop-k-preserved : goal.loop-k-preserved
-loop-k-preserved c = ends_more (station c.args.tables.now) c.loop-k.known c.loop-k.k _ c.end_by.result c.loop-k.invariant (omega (arith, ap length c.tasks-count.ensures.value)) c.end_by.ensures
+pub loop-t-preserved : goal.loop-t-preserved
+loop-t-preserved c =
+    let s = station c.args.tables.now in
+    let t = c.loop-t.t in
+    let inside : t ≤ length s.tasks = omega (arith, ap length c.tasks-t.ensures.value) in
+    let next : length s.tasks - t + 1 ≡ length s.tasks - (t - 1) = omega arith in
+    let filled = ends_more s c.loop-t.known (length s.tasks - t) (t - 1) c.earliest_end.result c.loop-t.invariant (omega arith) (search rules) in
+    (filled.0 ∙ ap (ends_to s) next, filled.1)
+
+pub returns : goal.returns
+returns c =
+    let s = station c.args.tables.now in
+    let all : length s.tasks - c.loop-t.t ≡ length s.tasks = omega arith in
+    c.loop-t.invariant.0 ∙ ap (ends_to s) all

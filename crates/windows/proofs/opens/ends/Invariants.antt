@@ -1,7 +1,7 @@
-use Rattle.std.proofs.Common.{◌≡◌, length}
+use Rattle.std.proofs.Common.{◌≡◌, ◌-◌, length}
 use Rattle.tables.specs.Stations.{station}
 use Rattle.windows.specs.Windows.{ends_to}
 use Rattle.windows.proofs.opens.ends.Given as goal
 
-abbrev pub invariant-loop-k : goal.invariant-loop-k
-invariant-loop-k l = (l.known ≡ ends_to (station l.tables) l.k) × (length l.known ≡ 64)
+abbrev pub invariant-loop-t : goal.invariant-loop-t
+invariant-loop-t l = (l.known ≡ ends_to (station l.tables) (length (station l.tables).tasks - l.t)) × (length l.known ≡ 64)

@@ -1,0 +1,70 @@
+-- A search in a list is a search over the numbers below its length.
+use Rattle.std.proofs.Common.{◌≡◌, ℕ, zero, suc, min, max, Bool, true, false, cond, ◌&&◌, ◌||◌, List, [], ◌∷◌, map, length, get_or, filter, fold, refl, sym, ap, ◌∙◌}
+use Rattle.std.specs.List.{list_any, list_all}
+use Rattle.lookups.specs.Searches.{any, every, largest, smallest}
+
+-- the first number apart from the others
+any_first : (p : ℕ → Bool) (n : ℕ) → any p (suc n) ≡ (p 0 || any (λ j. p (suc j)) n)
+unfolding any
+any_first p zero = elim (p 0) as (λ b. (false || b) ≡ (b || false)) [ true ↦ refl | false ↦ refl ]
+any_first p (suc n) =
+    ap (λ b. b || p (suc n)) (any_first p n)
+    ∙ elim (p 0) as (λ b. ((b || any (λ j. p (suc j)) n) || p (suc n)) ≡ (b || (any (λ j. p (suc j)) n || p (suc n)))) [ true ↦ refl | false ↦ refl ]
+
+every_first : (p : ℕ → Bool) (n : ℕ) → every p (suc n) ≡ (p 0 && every (λ j. p (suc j)) n)
+unfolding every
+every_first p zero = elim (p 0) as (λ b. (true && b) ≡ (b && true)) [ true ↦ refl | false ↦ refl ]
+every_first p (suc n) =
+    ap (λ b. b && p (suc n)) (every_first p n)
+    ∙ elim (p 0) as (λ b. ((b && every (λ j. p (suc j)) n) && p (suc n)) ≡ (b && (every (λ j. p (suc j)) n && p (suc n)))) [ true ↦ refl | false ↦ refl ]
+
+largest_first :
+    (p : ℕ → Bool) (f : ℕ → ℕ) (a n : ℕ)
+    → largest p f a (suc n) ≡ largest (λ j. p (suc j)) (λ j. f (suc j)) (cond (p 0) (max a (f 0)) a) n
+unfolding largest
+largest_first p f a zero = refl
+largest_first p f a (suc n) = ap (λ l. cond (p (suc n)) (max l (f (suc n))) l) (largest_first p f a n)
+
+smallest_first :
+    (p : ℕ → Bool) (f : ℕ → ℕ) (a n : ℕ)
+    → smallest p f a (suc n) ≡ smallest (λ j. p (suc j)) (λ j. f (suc j)) (cond (p 0) (min a (f 0)) a) n
+unfolding smallest
+smallest_first p f a zero = refl
+smallest_first p f a (suc n) = ap (λ l. cond (p (suc n)) (min l (f (suc n))) l) (smallest_first p f a n)
+
+pub any_list : {T : Type 0} (p : T → Bool) (d : T) (xs : List T) → list_any p xs ≡ any (λ j. p (get_or xs j d)) (length xs)
+unfolding any
+any_list p d [] = refl
+any_list p d (x ∷ xs) = ap (λ b. p x || b) (any_list p d xs) ∙ sym (any_first (λ j. p (get_or (x ∷ xs) j d)) (length xs))
+
+pub every_list : {T : Type 0} (p : T → Bool) (d : T) (xs : List T) → list_all p xs ≡ every (λ j. p (get_or xs j d)) (length xs)
+unfolding every
+every_list p d [] = refl
+every_list p d (x ∷ xs) = ap (λ b. p x && b) (every_list p d xs) ∙ sym (every_first (λ j. p (get_or (x ∷ xs) j d)) (length xs))
+
+-- one step of a fold over what a test lets through
+filtered_step :
+    {T : Type 0} (h : ℕ → ℕ → ℕ) (f : T → ℕ) (b : Bool) (a : ℕ) (x : T) (xs : List T)
+    → fold h a (map f (cond b (x ∷ xs) xs)) ≡ fold h (cond b (h a (f x)) a) (map f xs)
+filtered_step h f true a x xs = refl
+filtered_step h f false a x xs = refl
+
+pub largest_list :
+    {T : Type 0} (p : T → Bool) (f : T → ℕ) (d : T) (a : ℕ) (xs : List T)
+    → fold max a (map f (filter p xs)) ≡ largest (λ j. p (get_or xs j d)) (λ j. f (get_or xs j d)) a (length xs)
+unfolding largest
+largest_list p f d a [] = refl
+largest_list p f d a (x ∷ xs) =
+    filtered_step max f (p x) a x (filter p xs)
+    ∙ largest_list p f d (cond (p x) (max a (f x)) a) xs
+    ∙ sym (largest_first (λ j. p (get_or (x ∷ xs) j d)) (λ j. f (get_or (x ∷ xs) j d)) a (length xs))
+
+pub smallest_list :
+    {T : Type 0} (p : T → Bool) (f : T → ℕ) (d : T) (a : ℕ) (xs : List T)
+    → fold min a (map f (filter p xs)) ≡ smallest (λ j. p (get_or xs j d)) (λ j. f (get_or xs j d)) a (length xs)
+unfolding smallest
+smallest_list p f d a [] = refl
+smallest_list p f d a (x ∷ xs) =
+    filtered_step min f (p x) a x (filter p xs)
+    ∙ smallest_list p f d (cond (p x) (min a (f x)) a) xs
+    ∙ sym (smallest_first (λ j. p (get_or (x ∷ xs) j d)) (λ j. f (get_or (x ∷ xs) j d)) a (length xs))
