@@ -1,20 +1,9 @@
 // The walk through program, module, mode and refinement program, in a cycle of calls whose remaining levels fall.
 ghost use Rattle.std.specs.Prelude.{◌≡◌, ◌-◌, ◌<◌, Some, None};
 ghost use Rattle.tables.specs.Stations.{station};
-ghost use Rattle.levels.specs.Levels.{same_owner, meets, meets_module};
+ghost use Rattle.levels.specs.Levels.{meets, meets_module};
 
-use lookups::*;
 use tables::*;
-
-fn same_owner(a: Option<u8>, b: Option<u8>) -> bool
-    ensures { result ≡ same_owner a b }
-{
-    match (a, b) {
-        (None, None) => true,
-        (Some(x), Some(y)) => x == y,
-        (None, Some(_)) | (Some(_), None) => false,
-    }
-}
 
 // The walk down the program of an owner meets a module.
 #[cycle(walk_down)]
@@ -24,8 +13,8 @@ pub fn program_meets(tables: &Tables, target: usize, levels: u8, owner: Option<u
     if levels == 0 {
         return false;
     }
-    for m in 0..tables.modules().len() {
-        if same_owner(module(tables, m).owner, owner) && module_meets(tables, target, levels, m) {
+    for (m, module) in tables.modules().iter().enumerate() {
+        if module.owner == owner && module_meets(tables, target, levels, m) {
             return true;
         }
     }
@@ -41,8 +30,8 @@ fn module_meets(tables: &Tables, target: usize, levels: u8, m: usize) -> bool
     if m == target {
         return true;
     }
-    for d in 0..tables.modes().len() {
-        if mode(tables, d).home as usize == m && mode_meets(tables, target, levels, d as u8) {
+    for (d, mode) in tables.modes().iter().enumerate() {
+        if usize::from(mode.home) == m && mode_meets(tables, target, levels, d as u8) {
             return true;
         }
     }
