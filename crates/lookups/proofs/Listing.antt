@@ -1,7 +1,9 @@
 -- A search in a list is a search over the numbers below its length.
-use Rattle.std.proofs.Common.{◌≡◌, ℕ, zero, suc, min, max, Bool, true, false, cond, ◌&&◌, ◌||◌, List, [], ◌∷◌, map, length, get_or, filter, fold, refl, sym, ap, ◌∙◌}
+use Rattle.std.proofs.Common.{◌≡◌, ℕ, zero, suc, ◌<◌, min, max, Bool, true, false, cond, ◌||◌, List, [], ◌∷◌, map, length, get_or, filter, fold, refl, sym, ap, ◌∙◌, arith}
+use Rattle.std.proofs.lemmas.Bool.{and_parts}
 use Rattle.std.specs.List.{list_any, list_all}
-use Rattle.lookups.specs.Searches.{any, every, largest, smallest}
+use Rattle.lookups.proofs.Searching.{any_at, any_some}
+use Rattle.lookups.specs.Searches.{any, largest, smallest}
 
 -- the first number apart from the others
 any_first : (p : ℕ → Bool) (n : ℕ) → any p (suc n) ≡ (p 0 || any (λ j. p (suc j)) n)
@@ -10,13 +12,6 @@ any_first p zero = elim (p 0) as (λ b. (false || b) ≡ (b || false)) [ true �
 any_first p (suc n) =
     ap (λ b. b || p (suc n)) (any_first p n)
     ∙ elim (p 0) as (λ b. ((b || any (λ j. p (suc j)) n) || p (suc n)) ≡ (b || (any (λ j. p (suc j)) n || p (suc n)))) [ true ↦ refl | false ↦ refl ]
-
-every_first : (p : ℕ → Bool) (n : ℕ) → every p (suc n) ≡ (p 0 && every (λ j. p (suc j)) n)
-unfolding every
-every_first p zero = elim (p 0) as (λ b. (true && b) ≡ (b && true)) [ true ↦ refl | false ↦ refl ]
-every_first p (suc n) =
-    ap (λ b. b && p (suc n)) (every_first p n)
-    ∙ elim (p 0) as (λ b. ((b && every (λ j. p (suc j)) n) && p (suc n)) ≡ (b && (every (λ j. p (suc j)) n && p (suc n)))) [ true ↦ refl | false ↦ refl ]
 
 largest_first :
     (p : ℕ → Bool) (f : ℕ → ℕ) (a n : ℕ)
@@ -37,10 +32,18 @@ unfolding any
 any_list p d [] = refl
 any_list p d (x ∷ xs) = ap (λ b. p x || b) (any_list p d xs) ∙ sym (any_first (λ j. p (get_or (x ∷ xs) j d)) (length xs))
 
-pub every_list : {T : Type 0} (p : T → Bool) (d : T) (xs : List T) → list_all p xs ≡ every (λ j. p (get_or xs j d)) (length xs)
-unfolding every
-every_list p d [] = refl
-every_list p d (x ∷ xs) = ap (λ b. p x && b) (every_list p d xs) ∙ sym (every_first (λ j. p (get_or (x ∷ xs) j d)) (length xs))
+-- an item of a list that passes, by its number
+pub any_found : {T : Type 0} (p : T → Bool) (d : T) (xs : List T) → list_any p xs ≡ true → (k : ℕ) × (k < length xs) × (p (get_or xs k d) ≡ true)
+any_found p d xs e = any_some (λ j. p (get_or xs j d)) (length xs) (sym (any_list p d xs) ∙ e)
+
+pub any_there : {T : Type 0} (p : T → Bool) (d : T) (xs : List T) (k : ℕ) → k < length xs → p (get_or xs k d) ≡ true → list_any p xs ≡ true
+any_there p d xs k l e = any_list p d xs ∙ any_at (λ j. p (get_or xs j d)) k (length xs) l e
+
+-- all items of a list pass
+pub all_at : {T : Type 0} (p : T → Bool) (d : T) (xs : List T) → list_all p xs ≡ true → (k : ℕ) → k < length xs → p (get_or xs k d) ≡ true
+all_at p d [] e k l = absurd (omega arith)
+all_at p d (x ∷ xs) e zero l = (and_parts (p x) (list_all p xs) e).0
+all_at p d (x ∷ xs) e (suc k) l = all_at p d xs (and_parts (p x) (list_all p xs) e).1 k (omega arith)
 
 -- one step of a fold over what a test lets through
 filtered_step :

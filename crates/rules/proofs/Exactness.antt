@@ -8,22 +8,9 @@ use Rattle.fault.specs.declared.Rule.TheVariants.{Fields, Hierarchy, Timing, Fee
 use Rattle.std.proofs.lemmas.Bool.{ltb-true, and_parts}
 use Rattle.tables.specs.Places.{place}
 use Rattle.tables.specs.Stations.{Station}
-use Rattle.lookups.proofs.Searching.{first_at, first_none_all, first_none_from, first_some_all, first_some_from}
+use Rattle.lookups.proofs.Searching.{first_none_all, first_none_from, first_some_all, first_some_from}
 use Rattle.rules.specs.Rules.{holds}
-use Rattle.lookups.specs.Searches.{first_failing}
 use Rattle.rules.specs.Verdicts.{record_count, Holds, answer, checked, checks, all_rules, verdict, Exactly}
-
--- a loop over the records that goes through, and one that stops at k
-pub checked_through :
-    (s : Station) (r : Rule) (n : ℕ) → first_failing (λ k. holds s r (place s k)) n ≡ None → n ≡ record_count s → Ok tt ≡ checked s r
-unfolding checked
-checked_through s r n e l = cc
-
-pub checked_stop :
-    (s : Station) (r : Rule) (k : ℕ) → first_failing (λ k. holds s r (place s k)) k ≡ None → k < record_count s → holds s r (place s k) ≡ false
-    → Err (Broken r k) ≡ checked s r
-unfolding checked
-checked_stop s r k e l h = let f = first_at (λ k. holds s r (place s k)) k (record_count s) l e h in cc
 
 -- one rule
 answer_ok : (r : Rule) (o : Option ℕ) → answer r o ≡ Ok tt → o ≡ None

@@ -10,7 +10,9 @@ use Rattle.levels.proofs.Meeting.{reached_once}
 use Rattle.rules.proofs.Places.{kept_at}
 use Rattle.rules.proofs.Racing.{Family, races_none, owner_cases, never, same_number}
 use Rattle.levels.proofs.Reaching.{Named, met_reaches}
-use Rattle.lookups.proofs.Searching.{any_at, any_some, every_all}
+use Rattle.lookups.proofs.Listing.{any_found, any_there, all_at}
+use Rattle.lookups.proofs.Searching.{every_all}
+use Rattle.tables.specs.declared.records.Write.{Write}
 use Rattle.windows.proofs.Windowing.{Ascend, opening_is, end_is}
 use Rattle.levels.specs.Levels.{meets, Over, itself, owner}
 use Rattle.lookups.specs.Lookups.{module_at, mode_at, task_at, write_at, dependency_at, is_number, is_none, is_abstract, mode_of, module_of, owner_of}
@@ -59,6 +61,10 @@ not_rivals x y a b c d e f peace =
 none_is : (o : Option ℕ) → is_none o ≡ true → o ≡ None
 none_is None e = refl
 none_is (Some x) e = absurd (let z : ◌≡◌ {A = ℕ} 0 1 = cc in omega arith)
+
+-- the write that stands where there is none
+abbrev blank : Write
+blank = record { task = 0; output = 0; communicator = 0; offset = 0 }
 
 module _ (s : Station) (k : Keeps s) where
   named : Named s
@@ -147,8 +153,8 @@ module _ (s : Station) (k : Keeps s) where
   parent_writes : (t p c : ℕ) → t < length s.tasks → (task_at s t).parent ≡ Some p → writes_to s t c ≡ true → writes_to s p c ≡ true
   parent_writes t p c h e w =
       let r = (under_parent t p h e).2 in
-      let q = any_some (λ j. eqb (write_at s j).task t && eqb (write_at s j).communicator c) (length s.writes) w in
-      let a = every_all (λ j. not (eqb (write_at s j).task t) || writes_to s p (write_at s j).communicator) (length s.writes) r.2 q.0 q.1 in
+      let q = any_found (λ x. eqb x.task t && eqb x.communicator c) blank s.writes w in
+      let a = all_at (λ x. not (eqb x.task t) || writes_to s p x.communicator) blank s.writes r.2 q.0 q.1 in
       let b = and_parts (eqb (write_at s q.0).task t) (eqb (write_at s q.0).communicator c) q.2 in
       let same = eqb-true (write_at s q.0).communicator c b.1 in
       subst (λ x. writes_to s p x ≡ true) same (implied (eqb (write_at s q.0).task t) (writes_to s p (write_at s q.0).communicator) a b.0)
@@ -156,8 +162,8 @@ module _ (s : Station) (k : Keeps s) where
   -- rivals that write one communicator clash
   rivals_clash : (t u c : ℕ) → t < u → rivals s t u ≡ true → writes_to s t c ≡ true → writes_to s u c ≡ true → clashes s u ≡ true
   rivals_clash t u c l r w x =
-      let wt = any_some (λ j. eqb (write_at s j).task t && eqb (write_at s j).communicator c) (length s.writes) w in
-      let wu = any_some (λ j. eqb (write_at s j).task u && eqb (write_at s j).communicator c) (length s.writes) x in
+      let wt = any_found (λ y. eqb y.task t && eqb y.communicator c) blank s.writes w in
+      let wu = any_found (λ y. eqb y.task u && eqb y.communicator c) blank s.writes x in
       let i = wt.0 in
       let j = wu.0 in
       let a = and_parts (eqb (write_at s i).task t) (eqb (write_at s i).communicator c) wt.2 in
@@ -167,9 +173,9 @@ module _ (s : Station) (k : Keeps s) where
       let low : ltb (write_at s i).task u ≡ true = ap (λ y. ltb y u) ti ∙ below_ltb t u l in
       let rival : rivals s (write_at s i).task u ≡ true = ap (λ y. rivals s y u) ti ∙ r in
       let contest : contested s u c ≡ true =
-      any_at (λ y. eqb (write_at s y).communicator c && ltb (write_at s y).task u && rivals s (write_at s y).task u) i (length s.writes) wt.1
+      any_there (λ y. eqb y.communicator c && ltb y.task u && rivals s y.task u) blank s.writes i wt.1
       (and_from (eqb (write_at s i).communicator c && ltb (write_at s i).task u) (rivals s (write_at s i).task u) (and_from (eqb (write_at s i).communicator c) (ltb (write_at s i).task u) a.1 low) rival) in
-      any_at (λ y. eqb (write_at s y).task u && contested s u (write_at s y).communicator) j (length s.writes) wu.1
+      any_there (λ y. eqb y.task u && contested s u y.communicator) blank s.writes j wu.1
       (and_from (eqb (write_at s j).task u) (contested s u (write_at s j).communicator) b.0 (ap (contested s u) cj ∙ contest))
 
   no_clash : (u : ℕ) → u < length s.tasks → clashes s u ≡ false

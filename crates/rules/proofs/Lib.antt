@@ -1,4 +1,4 @@
-pub mod Exactness
 pub mod Places
+pub mod Exactness
 pub mod Racing
 pub mod Keeping

@@ -1,5 +1,6 @@
 -- The rules, each a test of one record against the whole tables.
-use Rattle.std.specs.Prelude.{ℕ, ◌+◌, ◌%◌, Bool, true, false, not, ◌&&◌, ◌||◌, length, Some, None, Option, ◌==◌, nat_eq, nat_le, nat_lt}
+use Rattle.std.specs.Prelude.{ℕ, ◌+◌, ◌%◌, Bool, true, false, not, ◌&&◌, ◌||◌, length, take, count_by, Some, None, Option, ◌==◌, nat_eq, nat_le, nat_lt}
+use Rattle.std.specs.List.{list_any, list_all, enumerate_from}
 use Rattle.fault.specs.declared.Rule.{Rule}
 use Rattle.fault.specs.declared.Rule.TheVariants.{Fields, Hierarchy, Timing, Feeding, Window, Refinement, Writers}
 use Rattle.tables.specs.Stations.{Station}
@@ -9,9 +10,10 @@ use Rattle.tables.specs.declared.records.Form.{Form}
 use Rattle.tables.specs.declared.records.Form.TheVariants.{Concrete, Abstract, Unlisted as Odd}
 use Rattle.tables.specs.declared.records.Place.{Place}
 use Rattle.tables.specs.declared.records.Place.TheVariants.{Communicator, Module, Mode, Task, Read, Write, Dependency, Switch}
+use Rattle.tables.specs.declared.records.Write as write
 use Rattle.levels.specs.Levels.{meets}
 use Rattle.lookups.specs.Lookups.{communicator_at, module_at, mode_at, task_at, read_at, write_at, dependency_at, switch_at, is_number, is_none, is_abstract, mode_of, module_of, owner_of}
-use Rattle.lookups.specs.Searches.{any, every, tally}
+use Rattle.lookups.specs.Searches.{every}
 use Rattle.windows.specs.Windows.{opening, end}
 
 -- ---- Fields: what a field names exists, and what it says lies in its set.
@@ -125,12 +127,11 @@ well_timed s (Switch i) = true
 -- How many reads and dependencies feed an input of a task.
 abbrev pub feeds : Station → ℕ → ℕ → ℕ
 feeds s t k =
-    tally (λ j. ((read_at s j).task == t) && (read_at s j).input == k) (length s.reads)
-    + tally (λ j. ((dependency_at s j).to == t) && (dependency_at s j).input == k) (length s.dependencies)
+    count_by (λ r. (r.task == t) && r.input == k) s.reads + count_by (λ d. (d.to == t) && d.input == k) s.dependencies
 
 -- A task depends on an abstract one.
 abbrev pub depends_on_abstract : Station → ℕ → Bool
-depends_on_abstract s t = any (λ j. ((dependency_at s j).to == t) && is_abstract (task_at s (dependency_at s j).task).form) (length s.dependencies)
+depends_on_abstract s t = list_any (λ d. (d.to == t) && is_abstract (task_at s d.task).form) s.dependencies
 
 -- Each input is fed exactly once; a concrete task depends only on concrete ones; a dependency joins tasks of one mode, smaller number first.
 abbrev pub well_fed : Station → Place → Bool
@@ -159,19 +160,19 @@ opens_in_time s (Switch i) = true
 
 -- A mode owns a module.
 abbrev pub owns : Station → ℕ → Bool
-owns s d = any (λ m. is_number (module_at s m).owner d) (length s.modules)
+owns s d = list_any (λ m. is_number m.owner d) s.modules
 
 -- A mode has an abstract task.
 abbrev pub has_abstract : Station → ℕ → Bool
-has_abstract s d = any (λ t. (mode_of s t == d) && is_abstract (task_at s t).form) (length s.tasks)
+has_abstract s d = list_any (λ t. (t.mode == d) && is_abstract t.form) s.tasks
 
 -- A task writes a communicator.
 abbrev pub writes_to : Station → ℕ → ℕ → Bool
-writes_to s t c = any (λ j. ((write_at s j).task == t) && (write_at s j).communicator == c) (length s.writes)
+writes_to s t c = list_any (λ w. (w.task == t) && w.communicator == c) s.writes
 
 -- A task depends on another.
 abbrev pub depends : Station → ℕ → ℕ → Bool
-depends s t u = any (λ j. ((dependency_at s j).to == t) && (dependency_at s j).task == u) (length s.dependencies)
+depends s t u = list_any (λ d. (d.to == t) && d.task == u) s.dependencies
 
 -- A task depends on the parent of another.
 abbrev pub depends_on_parent : Station → ℕ → Option ℕ → Bool
@@ -180,11 +181,11 @@ depends_on_parent s p (Some q) = depends s p q
 
 -- A task writes only what its parent writes.
 abbrev pub writes_within : Station → ℕ → ℕ → Bool
-writes_within s t p = every (λ j. not ((write_at s j).task == t) || writes_to s p (write_at s j).communicator) (length s.writes)
+writes_within s t p = list_all (λ w. not (w.task == t) || writes_to s p w.communicator) s.writes
 
 -- Where a task depends on another, its parent depends on the other's parent.
 abbrev pub depends_within : Station → ℕ → ℕ → Bool
-depends_within s t p = every (λ j. not ((dependency_at s j).to == t) || depends_on_parent s p (task_at s (dependency_at s j).task).parent) (length s.dependencies)
+depends_within s t p = list_all (λ d. not (d.to == t) || depends_on_parent s p (task_at s d.task).parent) s.dependencies
 
 -- Another task has another parent, or lies in another mode of the same module.
 abbrev pub apart_one : Station → ℕ → ℕ → ℕ → Bool
@@ -235,26 +236,20 @@ rivals s t u = is_none (owner_of s t) && is_none (owner_of s u) && (not (module_
 
 -- An earlier rival of a task writes a communicator.
 abbrev pub contested : Station → ℕ → ℕ → Bool
-contested s t c =
-    any (λ j. ((write_at s j).communicator == c) && nat_lt (write_at s j).task t && rivals s (write_at s j).task t) (length s.writes)
+contested s t c = list_any (λ w. (w.communicator == c) && nat_lt w.task t && rivals s w.task t) s.writes
 
 -- A task writes a communicator that an earlier rival writes.
 abbrev pub clashes : Station → ℕ → Bool
-clashes s t = any (λ j. ((write_at s j).task == t) && contested s t (write_at s j).communicator) (length s.writes)
+clashes s t = list_any (λ w. (w.task == t) && contested s t w.communicator) s.writes
 
--- A write before this one is of the same task to the same communicator at the same offset.
-abbrev pub written_before : Station → ℕ → Bool
-written_before s j =
-    any
-    (λ k.
-    ((write_at s k).task == (write_at s j).task)
-    && (write_at s k).communicator == (write_at s j).communicator
-    && (write_at s k).offset == (write_at s j).offset)
-    j
+-- Among the first n writes there is one of the same task to the same communicator at the same offset.
+abbrev pub written_before : Station → ℕ → write.Write → Bool
+written_before s n w =
+    list_any (λ v. (v.task == w.task) && v.communicator == w.communicator && v.offset == w.offset) (take n s.writes)
 
 -- A task writes one communicator twice at one offset.
 abbrev pub writes_twice : Station → ℕ → Bool
-writes_twice s t = any (λ j. ((write_at s j).task == t) && written_before s j) (length s.writes)
+writes_twice s t = list_any (λ e. (e.1.task == t) && written_before s e.0 e.1) (enumerate_from 0 s.writes)
 
 abbrev pub writes_alone : Station → Place → Bool
 writes_alone s (Communicator i) = true

@@ -9,28 +9,19 @@ use tables::*;
 fn none_or_below(number: Option<u8>, count: usize) -> bool
     ensures { result ≡ none_or_below number count }
 {
-    match number {
-        None => true,
-        Some(x) => (x as usize) < count,
-    }
+    number.is_none_or(|x| usize::from(x) < count)
 }
 
 fn listed_use(kind: Use) -> bool
     ensures { result ≡ listed_use kind }
 {
-    match kind {
-        Use::Plain | Use::Sensor | Use::Actuator => true,
-        Use::Unlisted(_) => false,
-    }
+    !matches!(kind, Use::Unlisted(_))
 }
 
 fn listed_form(form: Form) -> bool
     ensures { result ≡ listed_form form }
 {
-    match form {
-        Form::Concrete | Form::Abstract => true,
-        Form::Unlisted(_) => false,
-    }
+    !matches!(form, Form::Unlisted(_))
 }
 
 pub(crate) fn fields_fit(tables: &Tables, at: Place) -> bool
@@ -44,15 +35,15 @@ pub(crate) fn fields_fit(tables: &Tables, at: Place) -> bool
         Place::Module(i) => {
             let x = module(tables, i);
             none_or_below(x.owner, tables.modes().len())
-                && (x.start as usize) < tables.modes().len()
+                && usize::from(x.start) < tables.modes().len()
         }
         Place::Mode(i) => {
             let x = mode(tables, i);
-            (x.home as usize) < tables.modules().len() && x.period >= 1
+            usize::from(x.home) < tables.modules().len() && x.period >= 1
         }
         Place::Task(i) => {
             let x = task(tables, i);
-            (x.mode as usize) < tables.modes().len()
+            usize::from(x.mode) < tables.modes().len()
                 && x.inputs <= 4
                 && x.outputs <= 4
                 && none_or_below(x.parent, tables.tasks().len())
@@ -60,26 +51,27 @@ pub(crate) fn fields_fit(tables: &Tables, at: Place) -> bool
         }
         Place::Read(i) => {
             let x = read(tables, i);
-            (x.task as usize) < tables.tasks().len()
-                && x.input < task(tables, x.task as usize).inputs
-                && (x.communicator as usize) < tables.communicators().len()
+            usize::from(x.task) < tables.tasks().len()
+                && x.input < task(tables, usize::from(x.task)).inputs
+                && usize::from(x.communicator) < tables.communicators().len()
         }
         Place::Write(i) => {
             let x = write(tables, i);
-            (x.task as usize) < tables.tasks().len()
-                && x.output < task(tables, x.task as usize).outputs
-                && (x.communicator as usize) < tables.communicators().len()
+            usize::from(x.task) < tables.tasks().len()
+                && x.output < task(tables, usize::from(x.task)).outputs
+                && usize::from(x.communicator) < tables.communicators().len()
         }
         Place::Dependency(i) => {
             let x = dependency(tables, i);
-            (x.task as usize) < tables.tasks().len()
-                && x.output < task(tables, x.task as usize).outputs
-                && (x.to as usize) < tables.tasks().len()
-                && x.input < task(tables, x.to as usize).inputs
+            usize::from(x.task) < tables.tasks().len()
+                && x.output < task(tables, usize::from(x.task)).outputs
+                && usize::from(x.to) < tables.tasks().len()
+                && x.input < task(tables, usize::from(x.to)).inputs
         }
         Place::Switch(i) => {
             let x = switch(tables, i);
-            (x.mode as usize) < tables.modes().len() && (x.target as usize) < tables.modes().len()
+            usize::from(x.mode) < tables.modes().len()
+                && usize::from(x.target) < tables.modes().len()
         }
     }
 }

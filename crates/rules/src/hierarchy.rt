@@ -10,10 +10,7 @@ use tables::*;
 fn owner_before(tables: &Tables, i: usize, owner: Option<u8>) -> bool
     ensures { result ≡ owner_before (station tables.now) i owner }
 {
-    match owner {
-        None => true,
-        Some(o) => (mode(tables, o as usize).home as usize) < i,
-    }
+    owner.is_none_or(|o| usize::from(mode(tables, usize::from(o)).home) < i)
 }
 
 pub(crate) fn well_placed(tables: &Tables, at: Place) -> bool
@@ -22,13 +19,13 @@ pub(crate) fn well_placed(tables: &Tables, at: Place) -> bool
     match at {
         Place::Module(i) => {
             let x = module(tables, i);
-            mode(tables, x.start as usize).home as usize == i
+            usize::from(mode(tables, usize::from(x.start)).home) == i
                 && owner_before(tables, i, x.owner)
                 && program_meets(tables, i, 8, None)
         }
         Place::Switch(i) => {
             let x = switch(tables, i);
-            mode(tables, x.target as usize).home == mode(tables, x.mode as usize).home
+            mode(tables, usize::from(x.target)).home == mode(tables, usize::from(x.mode)).home
         }
         Place::Communicator(_)
         | Place::Mode(_)

@@ -2,27 +2,26 @@
 ghost use Rattle.std.specs.Prelude.{◌≡◌};
 ghost use Rattle.tables.specs.Stations.{station};
 ghost use Rattle.rules.specs.Rules.{opens_in_time, holds};
-ghost use Rattle.rules.specs.Verdicts.{checked, verdict, Exactly};
-ghost use Rattle.windows.specs.Windows.{openings, ends};
+ghost use Rattle.lookups.specs.Searches.{first_failing};
+ghost use Rattle.tables.specs.Places.{place};
+ghost use Rattle.rules.specs.Verdicts.{record_count, checked, verdict, Exactly};
 
 use crate::feeding::well_fed;
 use crate::fields::fields_fit;
 use crate::hierarchy::well_placed;
 use crate::refinement::well_refined;
+use crate::timed::Timed;
 use crate::timing::well_timed;
 use crate::writers::writes_alone;
 use fault::{Fault, Rule};
-use lookups::item;
 use tables::{Place, Tables};
-use windows::Windows;
 
 // A task opens before it ends.
-fn opens_in_time(tables: &Tables, windows: &Windows, at: Place) -> bool
-    requires { (windows.now.openings ≡ openings (station tables.now)) × (windows.now.ends ≡ ends (station tables.now)) }
-    ensures { result ≡ opens_in_time (station tables.now) at }
+fn opens_in_time(timed: &Timed<'_>, at: Place) -> bool
+    ensures { result ≡ opens_in_time (station timed.now.tables.now) at }
 {
     match at {
-        Place::Task(i) => item(&windows.openings, i, 0) < item(&windows.ends, i, 0),
+        Place::Task(i) => timed.opening(i) < timed.end(i),
         Place::Communicator(_)
         | Place::Module(_)
         | Place::Mode(_)
@@ -33,46 +32,46 @@ fn opens_in_time(tables: &Tables, windows: &Windows, at: Place) -> bool
     }
 }
 
-fn rule_holds(tables: &Tables, windows: &Windows, rule: Rule, at: Place) -> bool
-    requires { (windows.now.openings ≡ openings (station tables.now)) × (windows.now.ends ≡ ends (station tables.now)) }
-    ensures { result ≡ holds (station tables.now) rule at }
+fn rule_holds(timed: &Timed<'_>, rule: Rule, at: Place) -> bool
+    ensures { result ≡ holds (station timed.now.tables.now) rule at }
 {
     match rule {
-        Rule::Fields => fields_fit(tables, at),
-        Rule::Hierarchy => well_placed(tables, at),
-        Rule::Timing => well_timed(tables, at),
-        Rule::Feeding => well_fed(tables, at),
-        Rule::Window => opens_in_time(tables, windows, at),
-        Rule::Refinement => well_refined(tables, windows, at),
-        Rule::Writers => writes_alone(tables, at),
+        Rule::Fields => fields_fit(timed.tables, at),
+        Rule::Hierarchy => well_placed(timed.tables, at),
+        Rule::Timing => well_timed(timed.tables, at),
+        Rule::Feeding => well_fed(timed.tables, at),
+        Rule::Window => opens_in_time(timed, at),
+        Rule::Refinement => well_refined(timed, at),
+        Rule::Writers => writes_alone(timed.tables, at),
     }
 }
 
-// A rule at every record, the earliest that breaks it named.
-fn check_rule(tables: &Tables, windows: &Windows, rule: Rule) -> Result<(), Fault>
-    requires { (windows.now.openings ≡ openings (station tables.now)) × (windows.now.ends ≡ ends (station tables.now)) }
-    ensures { result ≡ checked (station tables.now) rule }
+// The first record that breaks a rule.
+fn first_broken(timed: &Timed<'_>, rule: Rule) -> Option<usize>
+    ensures { result ≡ first_failing (λ k. holds (station timed.now.tables.now) rule (place (station timed.now.tables.now) k)) (record_count (station timed.now.tables.now)) }
 {
-    for k in 0..tables.count() {
-        if rule_holds(tables, windows, rule, tables.place(k)) {
-            continue;
-        }
-        return Err(Fault::Broken { rule, record: k });
+    let tables = timed.tables;
+    (0..tables.count()).find(|k| !rule_holds(timed, rule, tables.place(*k)))
+}
+
+// A rule at every record, the earliest that breaks it named.
+fn check_rule(timed: &Timed<'_>, rule: Rule) -> Result<(), Fault>
+    ensures { result ≡ checked (station timed.now.tables.now) rule }
+{
+    match first_broken(timed, rule) {
+        None => Ok(()),
+        Some(record) => Err(Fault::Broken { rule, record }),
     }
-    Ok(())
 }
 
 fn judge(tables: &Tables) -> Result<(), Fault>
     ensures { result ≡ verdict (station tables.now) }
 {
-    let windows = Windows::of(tables);
-    check_rule(tables, &windows, Rule::Fields)?;
-    check_rule(tables, &windows, Rule::Hierarchy)?;
-    check_rule(tables, &windows, Rule::Timing)?;
-    check_rule(tables, &windows, Rule::Feeding)?;
-    check_rule(tables, &windows, Rule::Window)?;
-    check_rule(tables, &windows, Rule::Refinement)?;
-    check_rule(tables, &windows, Rule::Writers)
+    let timed = Timed::of(tables);
+    for rule in Rule::ALL {
+        check_rule(&timed, rule)?;
+    }
+    Ok(())
 }
 
 // Accepts exactly the tables that keep every rule at every record, and else names the first rule broken and its first record.

@@ -6,6 +6,7 @@ mod fields;
 mod hierarchy;
 mod judging;
 mod refinement;
+mod timed;
 mod timing;
 mod writers;
 

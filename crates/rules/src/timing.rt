@@ -15,32 +15,26 @@ fn is_multiple(x: u16, period: u16) -> bool
 fn period_of_owner(tables: &Tables, period: u16, owner: Option<u8>) -> bool
     ensures { result ≡ period_of_owner (station tables.now) period owner }
 {
-    match owner {
-        None => true,
-        Some(o) => period == mode(tables, o as usize).period,
-    }
+    owner.is_none_or(|o| period == mode(tables, usize::from(o)).period)
 }
 
 fn task_period(tables: &Tables, t: u8) -> u16
     ensures { result ≡ task_period (station tables.now) t }
 {
-    mode(tables, task(tables, t as usize).mode as usize).period
+    mode(tables, usize::from(task(tables, usize::from(t)).mode)).period
 }
 
 fn in_step(tables: &Tables, t: u8, c: u8, offset: u16) -> bool
     ensures { result ≡ in_step (station tables.now) t c offset }
 {
-    let period = communicator(tables, c as usize).period;
+    let period = communicator(tables, usize::from(c)).period;
     is_multiple(offset, period) && is_multiple(task_period(tables, t), period)
 }
 
 fn is_sensor(kind: Use) -> bool
     ensures { result ≡ is_sensor kind }
 {
-    match kind {
-        Use::Sensor => true,
-        Use::Plain | Use::Actuator | Use::Unlisted(_) => false,
-    }
+    kind == Use::Sensor
 }
 
 pub(crate) fn well_timed(tables: &Tables, at: Place) -> bool
@@ -49,7 +43,7 @@ pub(crate) fn well_timed(tables: &Tables, at: Place) -> bool
     match at {
         Place::Mode(i) => {
             let x = mode(tables, i);
-            period_of_owner(tables, x.period, module(tables, x.home as usize).owner)
+            period_of_owner(tables, x.period, module(tables, usize::from(x.home)).owner)
         }
         Place::Read(i) => {
             let x = read(tables, i);
@@ -61,7 +55,7 @@ pub(crate) fn well_timed(tables: &Tables, at: Place) -> bool
             x.offset >= 1
                 && x.offset <= task_period(tables, x.task)
                 && in_step(tables, x.task, x.communicator, x.offset)
-                && !is_sensor(communicator(tables, x.communicator as usize).kind)
+                && !is_sensor(communicator(tables, usize::from(x.communicator)).kind)
         }
         Place::Communicator(_)
         | Place::Module(_)

@@ -19,51 +19,33 @@ fn are_rivals(tables: &Tables, t: usize, u: usize) -> bool
 fn is_contested(tables: &Tables, t: usize, c: u8) -> bool
     ensures { result ≡ contested (station tables.now) t c }
 {
-    for j in 0..tables.writes().len() {
-        let x = write(tables, j);
-        if x.communicator == c && (x.task as usize) < t && are_rivals(tables, x.task as usize, t) {
-            return true;
-        }
-    }
-    false
+    tables.writes().iter().any(|x| {
+        let u = usize::from(x.task);
+        x.communicator == c && u < t && are_rivals(tables, u, t)
+    })
 }
 
 fn has_clash(tables: &Tables, t: usize) -> bool
     ensures { result ≡ clashes (station tables.now) t }
 {
-    for j in 0..tables.writes().len() {
-        let x = write(tables, j);
-        if x.task as usize == t && is_contested(tables, t, x.communicator) {
-            return true;
-        }
-    }
-    false
+    tables.writes().iter().any(|x| usize::from(x.task) == t
+        && is_contested(tables, t, x.communicator))
 }
 
-// A write before this one is of the same task to the same communicator at the same offset.
-fn written_before(tables: &Tables, j: usize) -> bool
-    ensures { result ≡ written_before (station tables.now) j }
+// Among the first n writes there is one of the same task to the same communicator at the same offset.
+fn written_before(tables: &Tables, n: usize, x: &Write) -> bool
+    ensures { result ≡ written_before (station tables.now) n x.now }
 {
-    let x = write(tables, j);
-    for k in 0..j {
-        let y = write(tables, k);
-        if y.task == x.task && y.communicator == x.communicator && y.offset == x.offset {
-            return true;
-        }
-    }
-    false
+    tables.writes().iter().take(n).any(|y| y.task == x.task
+        && y.communicator == x.communicator
+        && y.offset == x.offset)
 }
 
 fn writes_twice(tables: &Tables, t: usize) -> bool
     ensures { result ≡ writes_twice (station tables.now) t }
 {
-    for j in 0..tables.writes().len() {
-        let x = write(tables, j);
-        if x.task as usize == t && written_before(tables, j) {
-            return true;
-        }
-    }
-    false
+    tables.writes().iter().enumerate().any(|(n, x)| usize::from(x.task) == t
+        && written_before(tables, n, x))
 }
 
 pub(crate) fn writes_alone(tables: &Tables, at: Place) -> bool
