@@ -10,7 +10,7 @@ mod size;
 #[derive(Clone, Copy, PartialEq, Eq, Debug)]
 pub struct Full;
 
-// The first `len` slots hold the list; what the others hold is never seen.
+// The first `len` slots hold the list; what the others hold is never seen. An array with its length beside it, since a controller has no heap.
 #[derive(Drop)]
 pub struct Bounded<T, const N: usize> {
     slots: [T; N],

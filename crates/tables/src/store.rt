@@ -150,6 +150,7 @@ impl Tables {
         self.at(self.place(number))
     }
 
+    // A getter for each list, with the bound of that list: `tables.writes()` says more plainly what a generic getter would say by a type.
     pub fn communicators(&self) -> &[Communicator]
         ensures value { result.now ≡ (station self.now).communicators }
         ensures few { length result.now ≤ 32 }
