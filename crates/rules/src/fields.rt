@@ -1,7 +1,7 @@
 // What a field names exists, and what it says lies in its set.
 ghost use Rattle.std.specs.Prelude.{◌≡◌};
 ghost use Rattle.tables.specs.Stations.{station};
-ghost use Rattle.rules.specs.Rules.{none_or_below, listed_use, listed_form, fields_fit};
+ghost use Rattle.rules.specs.Rules.{none_or_below, fields_fit};
 
 use lookups::*;
 use tables::*;
@@ -12,25 +12,13 @@ fn none_or_below(number: Option<u8>, count: usize) -> bool
     number.is_none_or(|x| usize::from(x) < count)
 }
 
-fn listed_use(kind: Use) -> bool
-    ensures { result ≡ listed_use kind }
-{
-    !matches!(kind, Use::Unlisted(_))
-}
-
-fn listed_form(form: Form) -> bool
-    ensures { result ≡ listed_form form }
-{
-    !matches!(form, Form::Unlisted(_))
-}
-
 pub(crate) fn fields_fit(tables: &Tables, at: Place) -> bool
     ensures { result ≡ fields_fit (station tables.now) at }
 {
     match at {
         Place::Communicator(i) => {
             let x = communicator(tables, i);
-            x.period >= 1 && listed_use(x.kind)
+            x.period >= 1 && !matches!(x.kind, Use::Unlisted(_))
         }
         Place::Module(i) => {
             let x = module(tables, i);
@@ -47,7 +35,7 @@ pub(crate) fn fields_fit(tables: &Tables, at: Place) -> bool
                 && x.inputs <= 4
                 && x.outputs <= 4
                 && none_or_below(x.parent, tables.tasks().len())
-                && listed_form(x.form)
+                && !matches!(x.form, Form::Unlisted(_))
         }
         Place::Read(i) => {
             let x = read(tables, i);

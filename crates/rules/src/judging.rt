@@ -21,7 +21,7 @@ fn opens_in_time(timed: &Timed<'_>, at: Place) -> bool
     ensures { result ≡ opens_in_time (station timed.now.tables.now) at }
 {
     match at {
-        Place::Task(i) => timed.opening(i) < timed.end(i),
+        Place::Task(i) => timed.windows.opening(i) < timed.windows.end(i),
         Place::Communicator(_)
         | Place::Module(_)
         | Place::Mode(_)
@@ -32,6 +32,7 @@ fn opens_in_time(timed: &Timed<'_>, at: Place) -> bool
     }
 }
 
+// Each rule has its test: a match, so that one without a test does not compile.
 fn rule_holds(timed: &Timed<'_>, rule: Rule, at: Place) -> bool
     ensures { result ≡ holds (station timed.now.tables.now) rule at }
 {

@@ -83,12 +83,12 @@ fn refines_task(timed: &Timed<'_>, t: usize, o: u8, parent: Option<u8>) -> bool
     let Some(p) = parent else {
         return false;
     };
-    let tables = timed.tables;
+    let (tables, windows) = (timed.tables, &timed.windows);
     let x = task(tables, usize::from(p));
     is_abstract(x.form)
         && x.mode == o
-        && timed.opening(t) <= timed.opening(usize::from(p))
-        && timed.end(usize::from(p)) <= timed.end(t)
+        && windows.opening(t) <= windows.opening(usize::from(p))
+        && windows.end(usize::from(p)) <= windows.end(t)
         && writes_within(tables, t, p)
         && depends_within(tables, t, p)
         && apart_from_siblings(tables, t, p)

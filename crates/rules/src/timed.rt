@@ -1,7 +1,7 @@
 // Tables with the opening and the end of each task.
 ghost use Rattle.std.specs.Prelude.{◌≡◌};
 ghost use Rattle.tables.specs.Stations.{station};
-ghost use Rattle.windows.specs.Windows.{opening, end, openings, ends};
+ghost use Rattle.windows.specs.Windows.{openings, ends};
 
 use tables::Tables;
 use windows::Windows;
@@ -9,7 +9,7 @@ use windows::Windows;
 #[derive(Drop)]
 pub(crate) struct Timed<'a> {
     pub(crate) tables: &'a Tables,
-    windows: Windows,
+    pub(crate) windows: Windows,
     ghost opens: { windows.openings ≡ openings (station tables.now) },
     ghost closes: { windows.ends ≡ ends (station tables.now) },
 }
@@ -22,17 +22,5 @@ impl<'a> Timed<'a> {
             tables,
             windows: Windows::of(tables),
         }
-    }
-
-    pub(crate) fn opening(&self, t: usize) -> u16
-        ensures { result ≡ opening (station self.now.tables.now) t }
-    {
-        self.windows.opening(t)
-    }
-
-    pub(crate) fn end(&self, t: usize) -> u16
-        ensures { result ≡ end (station self.now.tables.now) t }
-    {
-        self.windows.end(t)
     }
 }

@@ -1,7 +1,7 @@
 // Periods and offsets fit one another.
 ghost use Rattle.std.specs.Prelude.{◌≡◌};
 ghost use Rattle.tables.specs.Stations.{station};
-ghost use Rattle.rules.specs.Rules.{multiple, period_of_owner, task_period, in_step, is_sensor, well_timed};
+ghost use Rattle.rules.specs.Rules.{multiple, period_of_owner, task_period, in_step, well_timed};
 
 use lookups::*;
 use tables::*;
@@ -31,12 +31,6 @@ fn in_step(tables: &Tables, t: u8, c: u8, offset: u16) -> bool
     is_multiple(offset, period) && is_multiple(task_period(tables, t), period)
 }
 
-fn is_sensor(kind: Use) -> bool
-    ensures { result ≡ is_sensor kind }
-{
-    kind == Use::Sensor
-}
-
 pub(crate) fn well_timed(tables: &Tables, at: Place) -> bool
     ensures { result ≡ well_timed (station tables.now) at }
 {
@@ -55,7 +49,7 @@ pub(crate) fn well_timed(tables: &Tables, at: Place) -> bool
             x.offset >= 1
                 && x.offset <= task_period(tables, x.task)
                 && in_step(tables, x.task, x.communicator, x.offset)
-                && !is_sensor(communicator(tables, usize::from(x.communicator)).kind)
+                && communicator(tables, usize::from(x.communicator)).kind != Use::Sensor
         }
         Place::Communicator(_)
         | Place::Module(_)
