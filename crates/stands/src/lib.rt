@@ -7,20 +7,20 @@ mod filling;
 mod looping;
 mod outputs;
 
+use outputs::Outputs;
+
 // Three levels, each with an output that a pass adds to it.
-#[derive(Clone, Copy)]
+#[derive(Clone, Copy, PartialEq, Eq, Debug)]
 pub struct Tank {
     levels: [i32; 3],
-    outputs: [i32; 32],
+    outputs: Outputs,
     ghost three: { length levels ≡ 3 },
-    ghost whole: { length outputs ≡ 32 },
 }
 
 // Sensors that answer what the output wired to them shows; a wire of 32 and more goes nowhere.
-#[derive(Clone, Copy)]
+#[derive(Clone, Copy, PartialEq, Eq, Debug)]
 pub struct Rack {
     wires: [u8; 32],
-    outputs: [i32; 32],
+    outputs: Outputs,
     ghost wired: { length wires ≡ 32 },
-    ghost whole: { length outputs ≡ 32 },
 }

@@ -4,23 +4,23 @@ ghost use Rattle.stands.specs.Stands.{rack_means};
 ghost use Rattle.std.proofs.Common.{rules};
 
 use crate::Rack;
-use crate::outputs::*;
+use crate::outputs::Outputs;
 use plant::Plant;
 
 impl Rack {
     // Each sensor wired to an output, or by 32 and more to none; the outputs at 0.
     pub fn new(wires: [u8; 32]) -> Rack
-        ensures { (result.wires ≡ wires) × (result.outputs ≡ replicate 32 (pos 0)) }
+        ensures { (result.wires ≡ wires) × (result.outputs.values ≡ replicate 32 (pos 0)) }
     {
         Rack {
             wires,
-            outputs: [0; 32],
+            outputs: Outputs { values: [0; 32] },
         }
     }
 }
 
 impl Plant for Rack {
-    ghost means = { λ t. rack_means t.wires t.outputs };
+    ghost means = { λ t. rack_means t.wires t.outputs.values };
 
     ghost drives = { Prim.search rules };
 
@@ -31,19 +31,17 @@ impl Plant for Rack {
     ghost inert = { Prim.search rules };
 
     fn sense(&self, i: u8) -> i32 {
-        if i < 32 {
-            shown_at(&self.outputs, self.wires[i as usize])
-        } else {
-            0
-        }
+        self.wires
+            .get(usize::from(i))
+            .map_or(0, |w| self.outputs.shown(*w))
     }
 
     fn shown(&self, i: u8) -> i32 {
-        shown_at(&self.outputs, i)
+        self.outputs.shown(i)
     }
 
     fn drive(&mut self, i: u8, v: i32) {
-        set_at(&mut self.outputs, i, v);
+        self.outputs.set(i, v);
     }
 
     fn pass(&mut self) {}

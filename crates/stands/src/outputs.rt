@@ -1,17 +1,28 @@
 // The 32 outputs that every stand has.
-ghost use Rattle.std.specs.Prelude.{◌≡◌, length};
+ghost use Rattle.std.specs.Prelude.{◌≡◌, length, replicate, pos};
 ghost use Rattle.stands.specs.Stands.{within, driven};
 
-pub(crate) fn shown_at(outputs: &[i32; 32], i: u8) -> i32
-    ensures { result ≡ within 32 outputs.now i }
-{
-    if i < 32 { outputs[i as usize] } else { 0 }
+// What each output shows, by number.
+#[derive(Clone, Copy, PartialEq, Eq, Debug)]
+pub(crate) struct Outputs {
+    pub(crate) values: [i32; 32],
+    ghost whole: { length values ≡ 32 },
 }
 
-pub(crate) fn set_at(outputs: &mut [i32; 32], i: u8, v: i32)
-    ensures { outputs.new ≡ driven outputs.old i v }
-{
-    if i < 32 {
-        outputs[i as usize] = v;
+impl Outputs {
+    pub(crate) fn shown(&self, i: u8) -> i32
+        ensures { result ≡ within 32 self.now.values i }
+    {
+        self.values.get(usize::from(i)).copied().unwrap_or(0)
+    }
+
+    pub(crate) fn set(&mut self, i: u8, v: i32)
+        ensures { self.new.values ≡ driven self.old.values i v }
+    {
+        // By index: of a write through `get_mut` of an array the library promises only the length, and its proof stayed open.
+        let i = usize::from(i);
+        if i < self.values.len() {
+            self.values[i] = v;
+        }
     }
 }
