@@ -10,8 +10,7 @@ impl Body for Law {
     ghost tests = { λ b _ vs. law_tests b.set vs };
 
     fn work(&self, task: u8, inputs: [i32; 4]) -> [i32; 4] {
-        let v = self.set.saturating_sub(inputs[0]);
-        [v, v, v, v]
+        [self.set.saturating_sub(inputs[0]); 4]
     }
 
     fn test(&self, condition: u8, values: &[i32; 32]) -> bool {

@@ -14,25 +14,20 @@ fn pair(a: i32, b: i32) -> i64
     i64::from(a) + i64::from(b)
 }
 
-// The inputs' sum.
+// The inputs' sum, in pairs whose bounds are promised: for `iter().map(..).sum()` the proof that it fits stayed open.
 fn total(inputs: [i32; 4]) -> i64
     ensures value { result ≡ sum_of inputs }
     ensures bound { (negsuc (2 ^ 34) ≤ℤ result) × (result ≤ℤ pos (2 ^ 34)) }
 {
-    pair(inputs[0], inputs[1]) + pair(inputs[2], inputs[3])
+    let [a, b, c, d] = inputs;
+    pair(a, b) + pair(c, d)
 }
 
 // A number held to 32 bits.
 fn held(n: i64) -> i32
     ensures { result ≡ saturate_to_bits 31 n }
 {
-    if n > 2_147_483_647 {
-        2_147_483_647
-    } else if n < -2_147_483_648 {
-        -2_147_483_648
-    } else {
-        n as i32
-    }
+    n.clamp(i64::from(i32::MIN), i64::from(i32::MAX)) as i32
 }
 
 // The value of an output: 100 for each task, 10 for each output, 1, and the inputs, held to 32 bits.
@@ -55,15 +50,10 @@ impl Body for TellTale {
     ghost tests = { λ _ c vs. tell_tests c vs };
 
     fn work(&self, task: u8, inputs: [i32; 4]) -> [i32; 4] {
-        [
-            told(task, 0, inputs),
-            told(task, 1, inputs),
-            told(task, 2, inputs),
-            told(task, 3, inputs),
-        ]
+        [0, 1, 2, 3].map(|output| told(task, output, inputs))
     }
 
     fn test(&self, condition: u8, values: &[i32; 32]) -> bool {
-        odd(values[condition as usize % 32])
+        odd(values[usize::from(condition) % 32])
     }
 }
