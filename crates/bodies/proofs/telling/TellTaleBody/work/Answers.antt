@@ -27,7 +27,7 @@ returns c =
     let most = more.6 in
     let all = most.6 in
     four c.map.result _ _ _ _ c.map.ensures.items.long
-    (ran.4.1 (pos 0) ∙ told_of t 0 _ ins _ ran.3.0 (let k = ran.5 in search (rules, of_calls)))
-    (more.4.1 (pos 0) ∙ told_of t 1 _ ins _ more.3.0 (let k = more.5 in search (rules, of_calls)))
-    (most.4.1 (pos 0) ∙ told_of t 2 _ ins _ most.3.0 (let k = most.5 in search (rules, of_calls)))
-    (all.4.1 (pos 0) ∙ told_of t 3 _ ins _ all.3.0 (let k = all.5 in search (rules, of_calls)))
+    (ran.4.1 (pos 0) ∙ told_of t 0 ran.1 ins _ (let e = ran.3.0 in omega arith) (let k = ran.5 in search (rules, of_calls)))
+    (more.4.1 (pos 0) ∙ told_of t 1 more.1 ins _ (let e = more.3.0 in omega arith) (let k = more.5 in search (rules, of_calls)))
+    (most.4.1 (pos 0) ∙ told_of t 2 most.1 ins _ (let e = most.3.0 in omega arith) (let k = most.5 in search (rules, of_calls)))
+    (all.4.1 (pos 0) ∙ told_of t 3 all.1 ins _ (let e = all.3.0 in omega arith) (let k = all.5 in search (rules, of_calls)))
