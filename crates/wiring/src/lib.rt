@@ -3,54 +3,21 @@
 
 ghost use Rattle.std.specs.Prelude.{◌≡◌, ℕ, List, [], ◌++◌};
 ghost use Rattle.plant.specs.Acts.{Act};
-ghost use Rattle.wiring.specs.Due.{communicator_at, is_instant, due_sensor, due_actuator, sensed, drives};
+ghost use Rattle.wiring.specs.Due.{due, sensed, drives};
 
 use plant::Plant;
 use tables::{Communicator, Use};
 
-// The communicator of a number; where there is none, a plain one of no period.
-fn communicator(communicators: &[Communicator], i: u8) -> Communicator
-    ensures { result ≡ communicator_at communicators.now i }
+// Whether the communicator of a number has a use and its period divides the clock; a number with none has a plain one of no period.
+fn is_due(communicators: &[Communicator], kind: Use, clock: u32, i: usize) -> bool
+    ensures { result ≡ due kind communicators.now clock i }
 {
-    if (i as usize) < communicators.len() {
-        communicators[i as usize]
-    } else {
-        Communicator {
-            period: 0,
-            kind: Use::Plain,
-            initial: 0,
-        }
-    }
-}
-
-// Whether a period divides the clock.
-fn at_instant(period: u16, clock: u32) -> bool
-    ensures { result ≡ is_instant period clock }
-{
-    period > 0 && clock % u32::from(period) == 0
-}
-
-fn is_due_sensor(communicators: &[Communicator], clock: u32, i: u8) -> bool
-    ensures { result ≡ due_sensor communicators.now clock i }
-{
-    let c = communicator(communicators, i);
-    match c.kind {
-        Use::Sensor => at_instant(c.period, clock),
-        Use::Plain | Use::Actuator | Use::Unlisted(_) => false,
-    }
-}
-
-fn is_due_actuator(communicators: &[Communicator], clock: u32, i: u8) -> bool
-    ensures { result ≡ due_actuator communicators.now clock i }
-{
-    let c = communicator(communicators, i);
-    match c.kind {
-        Use::Actuator => at_instant(c.period, clock),
-        Use::Plain | Use::Sensor | Use::Unlisted(_) => false,
-    }
+    let c = communicators.get(i).copied().unwrap_or_default();
+    c.kind == kind && c.period > 0 && clock % u32::from(c.period) == 0
 }
 
 // Every sensor whose period divides the clock gives its communicator what the plant senses, ascending.
+#[tactic(auto, using(crate::proofs::Turns::turns))]
 pub fn sense_due<P: Plant>(
     plant: &P,
     communicators: &[Communicator],
@@ -59,14 +26,15 @@ pub fn sense_due<P: Plant>(
 )
     ensures { values.new ≡ sensed (P.Plant.means plant.now []).sense communicators.now clock values.old 32 }
 {
-    for i in 0..32u8 {
-        if is_due_sensor(communicators, clock, i) {
-            values[i as usize] = plant.sense(i);
+    for (i, value) in values.iter_mut().enumerate() {
+        if is_due(communicators, Use::Sensor, clock, i) {
+            *value = plant.sense(i as u8);
         }
     }
 }
 
 // Every actuator whose period divides the clock is driven to its communicator's value, ascending.
+#[tactic(auto, using(crate::proofs::Turns::turns))]
 pub fn drive_due<P: Plant>(
     plant: &mut P,
     communicators: &[Communicator],
@@ -75,9 +43,9 @@ pub fn drive_due<P: Plant>(
 )
     ensures { (l : List Act) → P.Plant.means plant.new l ≡ P.Plant.means plant.old (drives communicators.now clock values.now 32 ++ l) }
 {
-    for i in 0..32u8 {
-        if is_due_actuator(communicators, clock, i) {
-            plant.drive(i, values[i as usize]);
+    for (i, value) in values.iter().enumerate() {
+        if is_due(communicators, Use::Actuator, clock, i) {
+            plant.drive(i as u8, *value);
         }
     }
 }
