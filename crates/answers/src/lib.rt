@@ -2,7 +2,7 @@
 #![tactic(auto)]
 
 // What happened in a call: the clock, the communicators written, the modes entered and the tasks released, by number.
-#[derive(Clone, Copy)]
+#[derive(Clone, Copy, PartialEq, Eq, Debug)]
 pub struct Events {
     pub clock: u32,
     pub written: [bool; 32],
@@ -11,14 +11,14 @@ pub struct Events {
 }
 
 // What a call reports: what happened, and how many instructions were carried out for it.
-#[derive(Clone, Copy)]
+#[derive(Clone, Copy, PartialEq, Eq, Debug)]
 pub struct Report {
     pub events: Events,
     pub instructions: usize,
 }
 
 // What can be looked at.
-#[derive(Clone, Copy)]
+#[derive(Clone, Copy, PartialEq, Eq, Debug)]
 pub enum Query {
     Communicator(usize),
     Module(usize),
@@ -27,7 +27,7 @@ pub enum Query {
 }
 
 // What is seen there: a communicator's value, a module's active mode, none while it rests, what an output shows, and how many dones were refused.
-#[derive(Clone, Copy)]
+#[derive(Clone, Copy, PartialEq, Eq, Debug)]
 pub enum Answer {
     Value(i32),
     Active(Option<u8>),

@@ -2,20 +2,26 @@
 #![tactic(auto)]
 
 // Where a task stands: idle, expected to be released in this round, or out at work.
-#[derive(Clone, Copy)]
+#[derive(Clone, Copy, PartialEq, Eq, Debug)]
 pub enum Stage {
     Idle,
     Expected,
     Out,
 }
 
-// Values by communicator, stage, end and ports by task, active mode by module, none while it rests.
-#[derive(Clone, Copy)]
+// What is kept of a task: its stage, its end and its ports.
+#[derive(Clone, Copy, PartialEq, Eq, Debug)]
+pub struct Job {
+    pub stage: Stage,
+    pub end: u64,
+    pub inputs: [i32; 4],
+    pub outputs: [i32; 4],
+}
+
+// Values by communicator, a job by task, active mode by module, none while it rests.
+#[derive(Clone, Copy, PartialEq, Eq, Debug)]
 pub struct Scene {
     pub values: [i32; 32],
-    pub stages: [Stage; 64],
-    pub ends: [u64; 64],
-    pub inputs: [[i32; 4]; 64],
-    pub outputs: [[i32; 4]; 64],
+    pub jobs: [Job; 64],
     pub active: [Option<u8>; 32],
 }
