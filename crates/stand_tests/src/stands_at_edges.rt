@@ -54,27 +54,29 @@ fn a_wired_sensor_answers_its_output(rt: HostRuntime) {
 
 #[test]
 fn only_what_is_due_is_driven_and_sensed(rt: HostRuntime) {
-    let actuator = Communicator {
-        period: 2,
-        kind: Use::Actuator,
-        initial: 0,
-    };
-    let sensor = Communicator {
-        period: 3,
-        kind: Use::Sensor,
-        initial: 0,
-    };
+    let communicators = [
+        Communicator {
+            period: 2,
+            kind: Use::Actuator,
+            initial: 0,
+        },
+        Communicator {
+            period: 3,
+            kind: Use::Sensor,
+            initial: 0,
+        },
+    ];
     let mut wires = [255; 32];
     wires[1] = 0;
     let mut rack = Rack::new(wires);
     let mut values = [4; 32];
-    drive_due(&mut rack, &[actuator, sensor], 3, &values);
+    drive_due(&mut rack, &communicators, 3, &values);
     assert_eq!(rt; rack.shown(0), 0);
-    drive_due(&mut rack, &[actuator, sensor], 4, &values);
+    drive_due(&mut rack, &communicators, 4, &values);
     assert_eq!(rt; rack.shown(0), 4);
     values[1] = 0;
-    sense_due(&rack, &[actuator, sensor], 4, &mut values);
+    sense_due(&rack, &communicators, 4, &mut values);
     assert_eq!(rt; values[1], 0);
-    sense_due(&rack, &[actuator, sensor], 6, &mut values);
+    sense_due(&rack, &communicators, 6, &mut values);
     assert_eq!(rt; values[1], 4);
 }
