@@ -1,5 +1,5 @@
 -- What the law body and the tell-tale body answer.
-use Rattle.std.specs.Prelude.{ℕ, ◌+◌, ◌*◌, ◌%◌, Bool, List, [], ◌∷◌, ℤ, pos, negsuc, ◌+ℤ◌, ◌-ℤ◌, ◌==◌, int_lt, slice_index_or}
+use Rattle.std.specs.Prelude.{ℕ, ◌+◌, ◌*◌, ◌%◌, Bool, List, [], ◌∷◌, ℤ, pos, negsuc, ◌+ℤ◌, ◌-ℤ◌, ◌==◌, int_lt, slice_index_or, replicate}
 use Rattle.std.specs.Int.{saturate_to_bits}
 
 -- Set less the first input, held to 32 bits with sign.
@@ -8,7 +8,7 @@ law_of set ins = saturate_to_bits 31 (set -ℤ slice_index_or ins 0 (pos 0))
 
 -- The law body: the same at each output.
 abbrev pub law_works : ℤ → List ℤ → List ℤ
-law_works set ins = law_of set ins ∷ law_of set ins ∷ law_of set ins ∷ law_of set ins ∷ []
+law_works set ins = replicate 4 (law_of set ins)
 
 -- Each of its conditions holds if communicator 0 exceeds set.
 abbrev pub law_tests : ℤ → List ℤ → Bool

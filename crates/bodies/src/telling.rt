@@ -41,7 +41,7 @@ fn told(task: u8, output: u8, inputs: [i32; 4]) -> i32
 fn odd(v: i32) -> bool
     ensures { result ≡ is_odd v }
 {
-    v.cast_unsigned() % 2 == 1
+    v % 2 != 0
 }
 
 impl Body for TellTale {
