@@ -1,5 +1,5 @@
 // The 32 outputs that every stand has.
-ghost use Rattle.std.specs.Prelude.{◌≡◌, length, replicate, pos};
+ghost use Rattle.std.specs.Prelude.{◌≡◌, length};
 ghost use Rattle.stands.specs.Stands.{within, driven};
 
 // What each output shows, by number.
