@@ -1,6 +1,7 @@
 -- An instruction and its word determine each other.
-use Rattle.std.proofs.Common.{◌≡◌, ℕ, ◌+◌, ◌<◌, true, ◌&&◌, eqb, ltb, List, [], ◌∷◌, map, None, sym, refl, ap, ◌∙◌}
-use Rattle.std.proofs.lemmas.Bool.{and_parts, ltb-true, eqb-true}
+use Rattle.std.proofs.Common.{◌≡◌, ℕ, ◌+◌, ◌<◌, true, not, ◌&&◌, eqb, ltb, List, [], ◌∷◌, map, None, sym, refl, ap, ◌∙◌}
+use Rattle.std.proofs.lemmas.Bool.{and_parts, ltb-true, eqb-true, not-false}
+use Rattle.std.specs.List.{position_from}
 use Rattle.code.specs.declared.instructions.Opcode.{Opcode}
 use Rattle.code.specs.declared.instructions.Opcode.TheVariants as op
 use Rattle.code.specs.declared.instructions.Word.{Word}
@@ -8,9 +9,9 @@ use Rattle.code.specs.declared.instructions.Instruction.{Instruction}
 use Rattle.code.specs.declared.instructions.Instruction.TheVariants.{Return, Write, Read, Depend, Expect, Release, Enter, FutureWrite, FutureSwitch, FutureRead, FutureRelease, JumpIf, Jump, Call, Copy, Push, Pop, GetParent, SetParent, Adopt, Delete}
 use Rattle.code.specs.Opcodes.{register_number, register_of}
 use Rattle.code.specs.Words.{word_of, instruction_of, made_of, taking}
-use Rattle.code.specs.Rules.{legal, unmet}
+use Rattle.code.specs.Rules.{legal}
 use Rattle.code.proofs.Ranges.{register_back, number_back}
-use Rattle.code.proofs.Unmet.{none_passed}
+use Rattle.code.proofs.Firsts.{none_passed}
 
 -- the instruction of an instruction's word
 pub instruction_back : (i : Instruction) → instruction_of (word_of i) ≡ i
@@ -83,9 +84,8 @@ instructions_back [] = refl
 instructions_back (x ∷ xs) = ap (λ y. y ∷ map instruction_of (map word_of xs)) (instruction_back x) ∙ ap (λ ys. x ∷ ys) (instructions_back xs)
 
 -- the words of legal words' instructions
-pub words_back : (n k : ℕ) (ws : List Word) → unmet (legal n) k ws ≡ None → map word_of (map instruction_of ws) ≡ ws
-unfolding unmet
+pub words_back : (n k : ℕ) (ws : List Word) → position_from (λ w. not (legal n w)) k ws ≡ None → map word_of (map instruction_of ws) ≡ ws
 words_back n k [] e = refl
 words_back n k (w ∷ ws) e =
-    let p = none_passed (legal n w) (unmet (legal n) (k + 1) ws) k e in
-    ap (λ v. v ∷ map word_of (map instruction_of ws)) (word_back n w p.0) ∙ ap (λ vs. w ∷ vs) (words_back n (k + 1) ws p.1)
+    let p = none_passed (not (legal n w)) (position_from (λ v. not (legal n v)) (k + 1) ws) k e in
+    ap (λ v. v ∷ map word_of (map instruction_of ws)) (word_back n w (not-false _ p.0)) ∙ ap (λ vs. w ∷ vs) (words_back n (k + 1) ws p.1)

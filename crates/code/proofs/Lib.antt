@@ -1,4 +1,4 @@
 pub mod Ranges
-pub mod Unmet
+pub mod Firsts
 pub mod Decoding
 pub mod Storing

@@ -1,4 +1,5 @@
 pub mod Opcodes
+pub mod Registers
 pub mod Words
 pub mod Rules
 pub mod Bounds

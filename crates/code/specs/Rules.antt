@@ -1,5 +1,6 @@
 -- What the operands of a code may be.
-use Rattle.std.specs.Prelude.{ℕ, ◌+◌, ◌-◌, Bool, true, cond, not, ◌&&◌, List, [], ◌∷◌, Some, None, Option, ◌==◌, nat_le, nat_lt, slice_index_or}
+use Rattle.std.specs.Prelude.{ℕ, ◌-◌, Bool, true, cond, not, ◌&&◌, List, Some, Option, ◌==◌, nat_le, nat_lt, slice_index_or}
+use Rattle.std.specs.List.{position_from}
 use Rattle.code.specs.declared.instructions.Operand.{Operand}
 use Rattle.code.specs.declared.instructions.Operand.TheVariants.{Unused, Line, Task, Mode, Condition, Ticks, End, Address, Register, OtherRegister}
 use Rattle.code.specs.declared.instructions.Instruction.TheVariants.{Return}
@@ -24,15 +25,10 @@ allowed n one OtherRegister v = nat_lt v 4 && not (v == one)
 abbrev pub legal : ℕ → Word → Bool
 legal n w = allowed n w.first (operands_of w.opcode).0 w.first && allowed n w.first (operands_of w.opcode).1 w.second
 
--- The place of the first that fails a test, counted from k.
-unfoldable pub unmet : {X : Type 0} → (X → Bool) → ℕ → List X → Option ℕ
-unmet test k [] = None
-unmet test k (x ∷ xs) = cond (test x) (unmet test (k + 1) xs) (Some k)
-
 -- Whether n words are neither none nor too many, and the last is a return or a jump.
 abbrev pub closed : ℕ → List Word → Bool
 closed n ws = (nat_lt 0 n && nat_le n 4096) && is_end (slice_index_or ws (n - 1) (word_of Return)).opcode
 
 -- Where a code of n words breaks a rule: at 0 by its length or end, else at its first bad word.
 abbrev pub broken : ℕ → List Word → Option ℕ
-broken n ws = cond (closed n ws) (unmet (legal n) 0 ws) (Some 0)
+broken n ws = cond (closed n ws) (position_from (λ w. not (legal n w)) 0 ws) (Some 0)

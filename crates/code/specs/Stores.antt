@@ -1,5 +1,6 @@
 -- What a code store holds, and which codes are taken.
-use Rattle.std.specs.Prelude.{ℕ, List, map, take, Some, None, Ok, Err, Option, Result}
+use Rattle.std.specs.Prelude.{ℕ, List, map, Some, None, Ok, Err, Option, Result}
+use Rattle.bounded.specs.Items.{items}
 use Rattle.fault.specs.declared.Fault.{Fault}
 use Rattle.fault.specs.declared.Fault.TheVariants.{BadCode}
 use Rattle.code.specs.declared.CodeStore.{CodeStore}
@@ -9,7 +10,7 @@ use Rattle.code.specs.Words.{word_of}
 
 -- The instructions of a store, in order.
 abbrev pub instructions : CodeStore → List Instruction
-instructions s = take s.len s.code
+instructions s = items s.code
 
 -- A code, unless it breaks a rule somewhere.
 abbrev pub verdict : Option ℕ → List Instruction → Result (List Instruction) Fault

@@ -1,11 +1,12 @@
 // The instructions of the machine, and the word that stands for each: its opcode and two operands.
 ghost use Rattle.std.specs.Prelude.{◌≡◌, true, IfSome, if◌then◌else◌, Some, None};
-ghost use Rattle.code.specs.Opcodes.{operands_of, is_end, register_number, register_of};
+ghost use Rattle.code.specs.Opcodes.{operands_of, is_end, register_number};
+ghost use Rattle.code.specs.Registers.{IsRegister};
 ghost use Rattle.code.specs.Words.{word_of, instruction_of};
 ghost use Rattle.code.specs.Rules.{allowed, legal};
 
 // The registers, each of which names a trigger or is empty.
-#[derive(Clone, Copy)]
+#[derive(Clone, Copy, PartialEq, Eq, Debug)]
 pub enum Register {
     R0,
     R1,
@@ -13,8 +14,12 @@ pub enum Register {
     R3,
 }
 
+// A number that no register has.
+#[derive(Clone, Copy, PartialEq, Eq, Debug)]
+pub struct NoRegister(pub u16);
+
 // What an instruction does, without its operands.
-#[derive(Clone, Copy)]
+#[derive(Clone, Copy, PartialEq, Eq, Debug)]
 pub enum Opcode {
     Return,
     Write,
@@ -39,8 +44,8 @@ pub enum Opcode {
     Delete,
 }
 
-// What an operand is about.
-#[derive(Clone, Copy)]
+// What an operand is about. An operand that is not there is a kind of its own, since it has a rule too: it is 0.
+#[derive(Clone, Copy, PartialEq, Eq, Debug)]
 pub enum Operand {
     Unused,
     Line,
@@ -55,7 +60,7 @@ pub enum Operand {
 }
 
 // An opcode with its two operands as numbers, which may be out of range.
-#[derive(Clone, Copy)]
+#[derive(Clone, Copy, PartialEq, Eq, Debug)]
 pub struct Word {
     pub opcode: Opcode,
     pub first: u16,
@@ -63,7 +68,7 @@ pub struct Word {
 }
 
 // An instruction with its operands.
-#[derive(Clone, Copy)]
+#[derive(Clone, Copy, PartialEq, Eq, Debug)]
 pub enum Instruction {
     Return,
     Write { line: u8 },
@@ -94,16 +99,20 @@ impl Register {
     {
         self as u16
     }
+}
 
-    // The register of a number; every number from 3 on is the last one's.
-    fn numbered(number: u16) -> Register
-        ensures { result ≡ register_of number }
-    {
+impl TryFrom<u16> for Register {
+    type Error = NoRegister;
+
+    ghost try_from_gives = { IsRegister };
+
+    fn try_from(number: u16) -> Result<Self, NoRegister> {
         match number {
-            0 => Register::R0,
-            1 => Register::R1,
-            2 => Register::R2,
-            _ => Register::R3,
+            0 => Ok(Register::R0),
+            1 => Ok(Register::R1),
+            2 => Ok(Register::R2),
+            3 => Ok(Register::R3),
+            _ => Err(NoRegister(number)),
         }
     }
 }
@@ -136,10 +145,7 @@ impl Opcode {
     pub fn is_end(self) -> bool
         ensures { result ≡ is_end self }
     {
-        match self {
-            Opcode::Return | Opcode::Jump => true,
-            _ => false,
-        }
+        matches!(self, Opcode::Return | Opcode::Jump)
     }
 }
 
@@ -151,12 +157,11 @@ impl Operand {
         match self {
             Operand::Unused => value == 0,
             Operand::Line => value < 128,
-            Operand::Task => value < 64,
-            Operand::Mode => value < 64,
+            Operand::Task | Operand::Mode => value < 64,
             Operand::Condition => value < 256,
             Operand::Ticks => true,
             Operand::End => value > 0,
-            Operand::Address => (value as usize) < len,
+            Operand::Address => usize::from(value) < len,
             Operand::Register => value < 4,
             Operand::OtherRegister => value < 4 && value != first,
         }
@@ -164,18 +169,6 @@ impl Operand {
 }
 
 impl Word {
-    fn new(opcode: Opcode, first: u16, second: u16) -> Word
-        ensures opcode { result.opcode ≡ opcode }
-        ensures first { result.first ≡ first }
-        ensures second { result.second ≡ second }
-    {
-        Word {
-            opcode,
-            first,
-            second,
-        }
-    }
-
     // Whether both operands may stand in a code of `len` instructions.
     pub fn is_legal(self, len: usize) -> bool
         ensures { result ≡ legal len self }
@@ -189,26 +182,20 @@ impl Word {
         ensures value { result ≡ (if legal len self then Some (instruction_of self) else None) }
         ensures back { IfSome result (λ i. word_of i ≡ self) }
     {
-        if self.is_legal(len) {
-            Some(self.instruction(len))
-        } else {
-            None
+        if !self.is_legal(len) {
+            return None;
         }
-    }
-
-    // The instruction of a word whose operands may stand there.
-    fn instruction(self, len: usize) -> Instruction
-        requires { legal len self ≡ true }
-        ensures { result ≡ instruction_of self }
-    {
         let Word {
             opcode,
             first,
             second,
         } = self;
         let (ticks, address) = (first, second);
-        let (x, y) = (Register::numbered(first), Register::numbered(second));
-        match opcode {
+        let (x, y) = (
+            Register::try_from(first).ok(),
+            Register::try_from(second).ok(),
+        );
+        Some(match opcode {
             Opcode::Return => Instruction::Return,
             Opcode::Write => Instruction::Write { line: first as u8 },
             Opcode::Read => Instruction::Read { line: first as u8 },
@@ -232,14 +219,14 @@ impl Word {
             },
             Opcode::Jump => Instruction::Jump { address: first },
             Opcode::Call => Instruction::Call { address: first },
-            Opcode::Copy => Instruction::Copy { to: x, from: y },
-            Opcode::Push => Instruction::Push { from: x },
-            Opcode::Pop => Instruction::Pop { to: x },
-            Opcode::GetParent => Instruction::GetParent { to: x, of: y },
-            Opcode::SetParent => Instruction::SetParent { of: x, to: y },
-            Opcode::Adopt => Instruction::Adopt { from: x, to: y },
-            Opcode::Delete => Instruction::Delete { beneath: x },
-        }
+            Opcode::Copy => Instruction::Copy { to: x?, from: y? },
+            Opcode::Push => Instruction::Push { from: x? },
+            Opcode::Pop => Instruction::Pop { to: x? },
+            Opcode::GetParent => Instruction::GetParent { to: x?, of: y? },
+            Opcode::SetParent => Instruction::SetParent { of: x?, to: y? },
+            Opcode::Adopt => Instruction::Adopt { from: x?, to: y? },
+            Opcode::Delete => Instruction::Delete { beneath: x? },
+        })
     }
 }
 
@@ -249,40 +236,37 @@ impl Instruction {
         ensures value { result ≡ word_of self }
         ensures back { instruction_of result ≡ self }
     {
-        match self {
-            Self::Return => Word::new(Opcode::Return, 0, 0),
-            Self::Write { line } => Word::new(Opcode::Write, line as u16, 0),
-            Self::Read { line } => Word::new(Opcode::Read, line as u16, 0),
-            Self::Depend { line } => Word::new(Opcode::Depend, line as u16, 0),
-            Self::Expect { task, end } => Word::new(Opcode::Expect, task as u16, end),
-            Self::Release { task } => Word::new(Opcode::Release, task as u16, 0),
-            Self::Enter { mode } => Word::new(Opcode::Enter, mode as u16, 0),
-            Self::FutureWrite { ticks, address } => Word::new(Opcode::FutureWrite, ticks, address),
-            Self::FutureSwitch { ticks, address } => Word::new(
-                Opcode::FutureSwitch,
-                ticks,
-                address,
-            ),
-            Self::FutureRead { ticks, address } => Word::new(Opcode::FutureRead, ticks, address),
-            Self::FutureRelease { task, address } => Word::new(
+        let (opcode, first, second) = match self {
+            Self::Return => (Opcode::Return, 0, 0),
+            Self::Write { line } => (Opcode::Write, u16::from(line), 0),
+            Self::Read { line } => (Opcode::Read, u16::from(line), 0),
+            Self::Depend { line } => (Opcode::Depend, u16::from(line), 0),
+            Self::Expect { task, end } => (Opcode::Expect, u16::from(task), end),
+            Self::Release { task } => (Opcode::Release, u16::from(task), 0),
+            Self::Enter { mode } => (Opcode::Enter, u16::from(mode), 0),
+            Self::FutureWrite { ticks, address } => (Opcode::FutureWrite, ticks, address),
+            Self::FutureSwitch { ticks, address } => (Opcode::FutureSwitch, ticks, address),
+            Self::FutureRead { ticks, address } => (Opcode::FutureRead, ticks, address),
+            Self::FutureRelease { task, address } => (
                 Opcode::FutureRelease,
-                task as u16,
+                u16::from(task),
                 address,
             ),
-            Self::JumpIf { condition, address } => Word::new(
-                Opcode::JumpIf,
-                condition as u16,
-                address,
-            ),
-            Self::Jump { address } => Word::new(Opcode::Jump, address, 0),
-            Self::Call { address } => Word::new(Opcode::Call, address, 0),
-            Self::Copy { to, from } => Word::new(Opcode::Copy, to.number(), from.number()),
-            Self::Push { from } => Word::new(Opcode::Push, from.number(), 0),
-            Self::Pop { to } => Word::new(Opcode::Pop, to.number(), 0),
-            Self::GetParent { to, of } => Word::new(Opcode::GetParent, to.number(), of.number()),
-            Self::SetParent { of, to } => Word::new(Opcode::SetParent, of.number(), to.number()),
-            Self::Adopt { from, to } => Word::new(Opcode::Adopt, from.number(), to.number()),
-            Self::Delete { beneath } => Word::new(Opcode::Delete, beneath.number(), 0),
+            Self::JumpIf { condition, address } => (Opcode::JumpIf, u16::from(condition), address),
+            Self::Jump { address } => (Opcode::Jump, address, 0),
+            Self::Call { address } => (Opcode::Call, address, 0),
+            Self::Copy { to, from } => (Opcode::Copy, to.number(), from.number()),
+            Self::Push { from } => (Opcode::Push, from.number(), 0),
+            Self::Pop { to } => (Opcode::Pop, to.number(), 0),
+            Self::GetParent { to, of } => (Opcode::GetParent, to.number(), of.number()),
+            Self::SetParent { of, to } => (Opcode::SetParent, of.number(), to.number()),
+            Self::Adopt { from, to } => (Opcode::Adopt, from.number(), to.number()),
+            Self::Delete { beneath } => (Opcode::Delete, beneath.number(), 0),
+        };
+        Word {
+            opcode,
+            first,
+            second,
         }
     }
 }

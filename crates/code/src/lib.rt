@@ -1,11 +1,12 @@
 // The instructions of the machine, and the store that holds a code of them.
 #![tactic(auto)]
 
-ghost use Rattle.std.specs.Prelude.{◌≡◌, ℕ, ◌-◌, ◌<◌, ◌≤◌, true, length, slice_index_or};
-ghost use Rattle.code.specs.declared.instructions.Instruction.TheVariants.{Return};
-ghost use Rattle.code.specs.Opcodes.{is_end};
-ghost use Rattle.code.specs.Rules.{legal};
+ghost use Rattle.std.specs.Prelude.{◌≡◌, None, length, map};
+ghost use Rattle.bounded.specs.Items.{items};
+ghost use Rattle.code.specs.Rules.{broken};
 ghost use Rattle.code.specs.Words.{word_of};
+
+use bounded::Bounded;
 
 pub mod instructions;
 mod store;
@@ -15,14 +16,9 @@ pub use instructions::{Instruction, Opcode, Operand, Register, Word};
 // The most instructions of a code.
 pub const MOST_INSTRUCTIONS: usize = 4096;
 
-// A code: the first `len` instructions, each legal, the last a return or a jump.
+// A code: 1 to 4,096 instructions, each legal, the last a return or a jump.
 #[derive(Drop)]
 pub struct CodeStore {
-    code: [Instruction; MOST_INSTRUCTIONS],
-    len: usize,
-    ghost some: { 0 < len },
-    ghost few: { len ≤ 4096 },
-    ghost whole: { length code ≡ 4096 },
-    ghost sound: { (k : ℕ) → k < len → legal len (word_of (slice_index_or code k Return)) ≡ true },
-    ghost ends: { is_end (word_of (slice_index_or code (len - 1) Return)).opcode ≡ true },
+    code: Bounded<Instruction, MOST_INSTRUCTIONS>,
+    ghost unbroken: { broken (length (items code)) (map word_of (items code)) ≡ None },
 }

@@ -1,34 +1,35 @@
 // Making a code store and reading it.
-ghost use Rattle.std.specs.Prelude.{◌≡◌, ◌+◌, ◌<◌, ◌≤◌, false, length, take, is_ok, Decides, slice_index_or};
+ghost use Rattle.std.specs.Prelude.{◌≡◌, ◌+◌, ◌<◌, ◌≤◌, false, not, length, map, is_ok, Decides, slice_index_or};
+ghost use Rattle.std.specs.List.{position_from};
 ghost use Rattle.code.specs.declared.instructions.Instruction.TheVariants.{Return};
 ghost use Rattle.code.specs.Opcodes.{is_end};
 ghost use Rattle.code.specs.Words.{word_of};
+ghost use Rattle.code.specs.Rules.{legal};
 ghost use Rattle.code.specs.Stores.{instructions, stored, held};
 ghost use Rattle.code.specs.Bounds.{Within};
 ghost use Rattle.code.specs.Promises.{Sound};
 
+use super::CodeStore;
 use super::instructions::Instruction;
-use super::{CodeStore, MOST_INSTRUCTIONS};
+use bounded::Bounded;
 use fault::Fault;
 
 impl CodeStore {
-    // The store of the first `len` instructions; what breaks a rule is refused with its place.
-    pub fn new(code: [Instruction; MOST_INSTRUCTIONS], len: usize) -> Result<CodeStore, Fault>
-        ensures value { held result ≡ stored len (take len code) }
-        ensures sound { Decides (is_ok result) (Sound len (take len code)) }
+    // The store of some instructions; what breaks a rule is refused with its place.
+    pub fn new(code: &[Instruction]) -> Result<CodeStore, Fault>
+        ensures value { held result ≡ stored (length code.now) code.now }
+        ensures sound { Decides (is_ok result) (Sound (length code.now) code.now) }
     {
-        if len == 0 || len > MOST_INSTRUCTIONS {
+        let mut kept = Bounded::new(Instruction::Return);
+        let fits = kept.extend_from_slice(code).is_ok();
+        let ends = code.last().is_some_and(|last| last.word().opcode.is_end());
+        if !fits || !ends {
             return Err(Fault::BadCode { place: 0 });
         }
-        if !code[len - 1].word().opcode.is_end() {
-            return Err(Fault::BadCode { place: 0 });
+        match first_bad(code) {
+            Some(place) => Err(Fault::BadCode { place }),
+            None => Ok(CodeStore { code: kept }),
         }
-        for k in 0..len {
-            if !code[k].word().is_legal(len) {
-                return Err(Fault::BadCode { place: k });
-            }
-        }
-        Ok(CodeStore { code, len })
     }
 
     pub fn len(&self) -> usize
@@ -36,7 +37,7 @@ impl CodeStore {
         ensures some { 0 < result }
         ensures few { result ≤ 4096 }
     {
-        self.as_slice().len()
+        self.code.len()
     }
 
     // The instructions in order.
@@ -44,8 +45,7 @@ impl CodeStore {
         ensures value { result.now ≡ instructions self.now }
         ensures sound { Sound (length result.now) result.now }
     {
-        let all: &[Instruction] = &self.code;
-        &all[0..self.len]
+        self.code.as_slice()
     }
 
     // The instruction at an address, a return past the end; one that goes on has a next.
@@ -54,10 +54,18 @@ impl CodeStore {
         ensures within { Within (length (instructions self.now)) result }
         ensures next { is_end (word_of result).opcode ≡ false → at + 1 < length (instructions self.now) }
     {
-        if (at as usize) < self.len {
-            self.code[at as usize]
-        } else {
-            Instruction::Return
-        }
+        self.code
+            .get(usize::from(at))
+            .unwrap_or(Instruction::Return)
     }
+}
+
+// The place of the first instruction that has an operand out of its range.
+fn first_bad(code: &[Instruction]) -> Option<usize>
+    ensures { result ≡ position_from (λ w. not (legal (length code.now) w)) 0 (map word_of code.now) }
+{
+    let len = code.len();
+    code.iter()
+        .map(|instruction| instruction.word())
+        .position(|word| !word.is_legal(len))
 }

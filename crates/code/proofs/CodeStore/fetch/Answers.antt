@@ -1,19 +1,16 @@
-use Rattle.std.proofs.lemmas.Bool.{true≢false}
-use Rattle.code.proofs.Storing.{store_at, store_past, store_within, store_goes_on}
+use Rattle.std.proofs.Common.{◌≡◌, length, get_or, refl, rules}
+use Rattle.std.proofs.lemmas.Option.{unwrap_or-slice_get}
+use Rattle.code.specs.declared.instructions.Instruction.TheVariants.{Return}
+use Rattle.code.specs.Stores.{instructions}
+use Rattle.code.proofs.Storing.{sound_unbroken, sound_within, sound_goes_on}
 use Rattle.code.proofs.CodeStore.fetch.Goals as goal
 
-pub returns-then-at-self : goal.returns-then-at-self
-returns-then-at-self c =
+pub returns : goal.returns
+returns c =
+    let value : c.unwrap_or.result ≡ get_or (instructions c.args.self.now) c.args.at Return = search (rules, unwrap_or-slice_get) in
+    let sound = sound_unbroken (length (instructions c.args.self.now)) (instructions c.args.self.now) refl c.args.self.now.unbroken in
     record {
-      value = store_at c.args.self.now c.args.at c.if-at-self.true;
-      within = store_within c.args.self.now c.args.at c.if-at-self.true;
-      next = store_goes_on c.args.self.now c.args.at c.if-at-self.true;
-    }
-
-pub returns-else-at-self : goal.returns-else-at-self
-returns-else-at-self c =
-    record {
-      value = store_past c.args.self.now c.args.at c.if-at-self.false;
-      within = tt;
-      next = λ e. absurd (true≢false e);
+      value = value;
+      within = rw value (sound_within (instructions c.args.self.now) c.args.at sound);
+      next = rw value (sound_goes_on (instructions c.args.self.now) c.args.at sound);
     }
