@@ -1,5 +1,5 @@
 -- Which codes are taken.
-use Rattle.std.proofs.Common.{◌≡◌, ℕ, ◌+◌, ◌-◌, ◌<◌, ◌≤◌, Bool, true, false, cond, not, ◌&&◌, ltb, leb, List, map, length, get_or, Some, None, Decides, Option, sym, refl, ap, ◌∙◌, subst, inl, inr, arith}
+use Rattle.std.proofs.Common.{◌≡◌, ℕ, ◌+◌, ◌-◌, ◌<◌, Bool, true, false, cond, not, ◌&&◌, ltb, leb, List, map, length, get_or, Some, None, Decides, Option, sym, refl, ap, ◌∙◌, subst, inl, inr, arith}
 use Rattle.std.proofs.lemmas.List.{length-map, get_or-map, get_or_past}
 use Rattle.std.proofs.lemmas.Bool.{and_parts, and_from, ltb-true, leb-true, lt-ltb, le-leb, cond-true, not-false, cases_lt, cases_order, false≢true}
 use Rattle.std.specs.List.{position_from}
@@ -11,8 +11,8 @@ use Rattle.code.specs.Words.{word_of}
 use Rattle.code.specs.Rules.{legal, closed, broken}
 use Rattle.code.specs.Bounds.{Within}
 use Rattle.code.specs.Promises.{Sound}
-use Rattle.code.proofs.Ranges.{within, within_legal, last, last_ends}
-use Rattle.code.proofs.Firsts.{none_passed, each_fails, none_passes}
+use Rattle.code.proofs.Ranges.{within_decides, last, last_ends}
+use Rattle.code.proofs.Firsts.{each_fails, none_passes}
 
 -- a word of an instruction
 word_at : (xs : List Instruction) (k : ℕ) → k < length xs → get_or (map word_of xs) k (word_of Return) ≡ word_of (get_or xs k Return)
@@ -37,7 +37,7 @@ sound_unbroken n xs w e =
     let low : n - 1 < length xs = omega arith in (
       some,
       leb-true n 4096 s.1,
-      (λ k h. let near : k < length xs = omega arith in let inside : k < length (map word_of xs) = omega arith in within n (get_or xs k Return) (ap (legal n) (sym (word_at xs k near)) ∙ not-false _ (each_fails (λ w. not (legal n w)) 0 (map word_of xs) (word_of Return) p.1 k inside))),
+      (λ k h. let near : k < length xs = omega arith in let inside : k < length (map word_of xs) = omega arith in (within_decides n (get_or xs k Return)).0 (ap (legal n) (sym (word_at xs k near)) ∙ not-false _ (each_fails (λ w. not (legal n w)) 0 (map word_of xs) (word_of Return) p.1 k inside))),
       last (get_or xs (n - 1) Return) (ap (λ v. is_end v.opcode) (sym (word_at xs (n - 1) low)) ∙ q.1),
     )
 
@@ -51,7 +51,7 @@ unbroken_sound n xs w s =
     (and_from _ _ (and_from _ _ (lt-ltb 0 n some) (le-leb n 4096 s.1))
     (ap (λ v. is_end v.opcode) (word_at xs (n - 1) low) ∙ last_ends (get_or xs (n - 1) Return) s.3))
     ∙ none_passes (λ w. not (legal n w)) 0 (map word_of xs) (word_of Return)
-    (λ j h. let near : j < length xs = omega arith in let under : j < n = omega arith in ap (λ w. not (legal n w)) (word_at xs j near) ∙ ap not (within_legal n (get_or xs j Return) (s.2 j under)))
+    (λ j h. let near : j < length xs = omega arith in let under : j < n = omega arith in ap (λ w. not (legal n w)) (word_at xs j near) ∙ ap not ((within_decides n (get_or xs j Return)).1 (s.2 j under)))
 
 -- the operands of an instruction of a sound code, and of the return past its end
 pub sound_within : (xs : List Instruction) (k : ℕ) → Sound (length xs) xs → Within (length xs) (get_or xs k Return)

@@ -34,26 +34,8 @@ operands_of Delete = (kind.Register, kind.Unused)
 -- Return and jump never go on to the instruction that follows.
 abbrev pub is_end : Opcode → Bool
 is_end Return = true
-is_end Write = false
-is_end Read = false
-is_end Depend = false
-is_end Expect = false
-is_end Release = false
-is_end Enter = false
-is_end FutureWrite = false
-is_end FutureSwitch = false
-is_end FutureRead = false
-is_end FutureRelease = false
-is_end JumpIf = false
 is_end Jump = true
-is_end Call = false
-is_end Copy = false
-is_end Push = false
-is_end Pop = false
-is_end GetParent = false
-is_end SetParent = false
-is_end Adopt = false
-is_end Delete = false
+is_end _ = false
 
 -- The number of each register.
 abbrev pub register_number : Register → ℕ
