@@ -3,6 +3,8 @@ use Rattle.std.proofs.Common.{◌≡◌, ℕ, ◌+◌, ◌-◌, ◌<◌, Bool, t
 use Rattle.std.proofs.lemmas.List.{length-map, get_or-map, get_or_past}
 use Rattle.std.proofs.lemmas.Bool.{and_parts, and_from, ltb-true, leb-true, lt-ltb, le-leb, cond-true, not-false, cases_lt, cases_order, false≢true}
 use Rattle.std.specs.List.{position_from}
+use Rattle.code.specs.declared.CodeStore.{CodeStore}
+use Rattle.code.specs.Stores.{instructions}
 use Rattle.code.specs.declared.instructions.Instruction.{Instruction}
 use Rattle.code.specs.declared.instructions.Instruction.TheVariants.{Return}
 use Rattle.code.specs.declared.instructions.Word.{Word}
@@ -76,3 +78,7 @@ bad_unsound xs k e = (
   (λ t. absurd (false≢true t)),
   (λ s. absurd (let none = (unbroken_parts (length xs) (map word_of xs) (unbroken_sound (length xs) xs refl s)).1 in cc)),
 )
+
+-- what a store holds is sound
+pub store_sound : (s : CodeStore) → Sound (length (instructions s)) (instructions s)
+store_sound s = sound_unbroken (length (instructions s)) (instructions s) refl s.unbroken

@@ -1,11 +1,11 @@
 -- Code and image determine each other.
-use Rattle.std.proofs.Common.{◌≡◌, ℕ, zero, suc, ◌+◌, ◌*◌, ◌/◌, ◌%◌, ◌<◌, Bool, true, false, cond, ◌&&◌, eqb, List, [], ◌∷◌, ◌++◌, map, length, get_or, take, drop, is_some, IfOk, Some, None, Ok, Err, Option, Result, sym, refl, ap, ◌∙◌, arith}
+use Rattle.std.proofs.Common.{◌≡◌, ℕ, zero, suc, ◌+◌, ◌*◌, ◌/◌, ◌%◌, ◌<◌, Bool, true, false, cond, ◌&&◌, eqb, List, [], ◌∷◌, ◌++◌, map, length, get_or, take, drop, is_none, not, IfOk, Some, None, Ok, Err, Option, Result, sym, refl, ap, ◌∙◌, arith}
 use Rattle.fault.specs.declared.Fault.{Fault}
 use Rattle.fault.specs.declared.Fault.TheVariants.{NoImage}
 use Rattle.std.proofs.ByRecursion.{All-drop}
 use Rattle.std.proofs.lemmas.List.{length-map, length-drop, take_at}
-use Rattle.std.proofs.lemmas.Bool.{and_parts, and_from, eqb-true, eq-eqb, cond-true}
-use Rattle.std.specs.List.{flat_map, AllByRecursion}
+use Rattle.std.proofs.lemmas.Bool.{and_parts, and_from, eqb-true, eq-eqb, cond-true, not-false}
+use Rattle.std.specs.List.{flat_map, position_from, AllByRecursion}
 use Rattle.code.specs.declared.instructions.Instruction.{Instruction}
 use Rattle.code.specs.declared.instructions.Opcode.{Opcode}
 use Rattle.code.specs.declared.instructions.Operand.{Operand}
@@ -13,20 +13,20 @@ use Rattle.code.specs.declared.instructions.Operand.TheVariants.{Unused, Line, T
 use Rattle.code.specs.declared.instructions.Word.{Word}
 use Rattle.code.specs.Opcodes.{operands_of}
 use Rattle.code.specs.Promises.{Sound}
-use Rattle.code.specs.Rules.{allowed, legal, unmet, broken, closed}
+use Rattle.code.specs.Rules.{allowed, legal, broken}
 use Rattle.code.specs.declared.CodeStore.{CodeStore}
 use Rattle.code.specs.Stores.{verdict, held, instructions}
 use Rattle.code.specs.Words.{word_of, instruction_of, made_of}
 use Rattle.code.proofs.Decoding.{instructions_back, words_back}
-use Rattle.code.proofs.Storing.{unbroken_sound}
-use Rattle.code.proofs.Unmet.{none_passed}
+use Rattle.code.proofs.Storing.{unbroken_sound, unbroken_parts}
+use Rattle.code.proofs.Firsts.{none_passed}
 use Rattle.image.specs.Cells.{half, value, cell, blank, padded, clean, word_in, words_in}
 use Rattle.image.specs.Images.{image_length, head_of, image_of, headed, count_in, known, decoded, read_cells, read_image}
 use Rattle.image.specs.Marks.{mark_of, opcodes, found}
 use Rattle.image.specs.Promises.{ReadBack, WrittenBack, OneCode, OneImage}
 use Rattle.image.proofs.Finding.{found_mark, mark_two, mark_found}
 use Rattle.image.proofs.Placing.{cells_length}
-use Rattle.image.proofs.Wholes.{words_count}
+use Rattle.image.proofs.Cutting.{words_length, all_known}
 
 -- the half-word of a half-word's bytes
 pub half_back : (v : ℕ) → value (v / 256) (v % 256) ≡ v
@@ -42,15 +42,7 @@ bytes_back a b h =
 -- a value that may stand is 0 where there is no operand
 allowed_blank : (n one : ℕ) (o : Operand) (v : ℕ) → allowed n one o v ≡ true → blank o v ≡ true
 allowed_blank n one Unused v h = h
-allowed_blank n one Line v h = refl
-allowed_blank n one Task v h = refl
-allowed_blank n one Mode v h = refl
-allowed_blank n one Condition v h = refl
-allowed_blank n one Ticks v h = refl
-allowed_blank n one End v h = refl
-allowed_blank n one Address v h = refl
-allowed_blank n one Register v h = refl
-allowed_blank n one OtherRegister v h = refl
+allowed_blank n one _ v h = refl
 
 legal_padded : (n : ℕ) (w : Word) → legal n w ≡ true → padded w.opcode w.first w.second ≡ true
 legal_padded n w h =
@@ -68,22 +60,20 @@ cell_read w bs h =
     ∙ ap (λ o. o ∷ words_in bs) (cond-true (padded w.opcode w.first w.second) _ _ h)
 
 -- so is a row of them
-cells_read : (n k : ℕ) (ws : List Word) → unmet (legal n) k ws ≡ None → words_in (flat_map cell ws) ≡ map Some ws
-unfolding unmet words_in
+cells_read : (n k : ℕ) (ws : List Word) → position_from (λ w. not (legal n w)) k ws ≡ None → words_in (flat_map cell ws) ≡ map Some ws
+unfolding words_in
 cells_read n k [] e = refl
 cells_read n k (w ∷ ws) e =
-    let p = none_passed (legal n w) (unmet (legal n) (k + 1) ws) k e in
-    cell_read w (flat_map cell ws) (legal_padded n w p.0) ∙ ap (λ os. Some w ∷ os) (cells_read n (k + 1) ws p.1)
+    let p = none_passed (not (legal n w)) (position_from (λ v. not (legal n v)) (k + 1) ws) k e in
+    cell_read w (flat_map cell ws) (legal_padded n w (not-false _ p.0)) ∙ ap (λ os. Some w ∷ os) (cells_read n (k + 1) ws p.1)
 
-all_known : (k : ℕ) (ws : List Word) → unmet is_some k (map Some ws) ≡ None
-unfolding unmet
-all_known k [] = refl
-all_known k (w ∷ ws) = all_known (k + 1) ws
+some_known : (k : ℕ) (ws : List Word) → position_from is_none k (map Some ws) ≡ None
+some_known k [] = refl
+some_known k (w ∷ ws) = some_known (k + 1) ws
 
-known_all : (ws : List Word) → known (map Some ws) ≡ ws
-unfolding known
-known_all [] = refl
-known_all (w ∷ ws) = ap (λ vs. w ∷ vs) (known_all ws)
+known_some : (ws : List Word) → known (map Some ws) ≡ ws
+known_some [] = refl
+known_some (w ∷ ws) = ap (λ vs. w ∷ vs) (known_some ws)
 
 -- the head of an image is right
 image_headed : (xs : List Instruction) → headed (image_of xs) ≡ true
@@ -95,12 +85,12 @@ image_headed xs =
 pub read_back : ReadBack
 read_back xs s =
     let whole : broken (length xs) (map word_of xs) ≡ None = unbroken_sound (length xs) xs refl s in
-    let p = none_passed (closed (length xs) (map word_of xs)) (unmet (legal (length xs)) 0 (map word_of xs)) 0 whole in
+    let p = unbroken_parts (length xs) (map word_of xs) whole in
     let words : words_in (flat_map cell (map word_of xs)) ≡ map Some (map word_of xs) = cells_read (length xs) 0 (map word_of xs) p.1 in
     cond-true (headed (image_of xs)) _ _ (image_headed xs)
-    ∙ ap (λ os. read_cells (unmet is_some 0 os) (known os)) words
-    ∙ ap (λ o. read_cells o (known (map Some (map word_of xs)))) (all_known 0 (map word_of xs))
-    ∙ ap decoded (known_all (map word_of xs))
+    ∙ ap (λ os. read_cells (position_from is_none 0 os) (known os)) words
+    ∙ ap (λ o. read_cells o (known (map Some (map word_of xs)))) (some_known 0 (map word_of xs))
+    ∙ ap decoded (known_some (map word_of xs))
     ∙ ap (λ n. verdict (broken n (map word_of xs)) (map instruction_of (map word_of xs))) (length-map xs word_of)
     ∙ ap (λ o. verdict o (map instruction_of (map word_of xs))) whole
     ∙ ap Ok (instructions_back xs)
@@ -111,13 +101,13 @@ one_code xs ys s t e =
     cc
 
 -- a word that was found
-cond_some : {X : Type 0} (b : Bool) (x y : X) → cond b (Some x) None ≡ Some y → x ≡ y
-cond_some true x y e = cc
-cond_some false x y e = let z : ◌≡◌ {A = ℕ} 0 1 = cc in absurd (omega arith)
-
 clean_some : (o : Option Opcode) (a b : ℕ) (w : Word) → clean o a b ≡ Some w → (p : Opcode) × (o ≡ Some p) × (made_of p a b ≡ w)
-clean_some None a b w e = let z : ◌≡◌ {A = ℕ} 0 1 = cc in absurd (omega arith)
+clean_some None a b w e = absurd cc
 clean_some (Some p) a b w e = (p, refl, cond_some (padded p a b) (made_of p a b) w e)
+  where
+    cond_some : {X : Type 0} (b : Bool) (x y : X) → cond b (Some x) None ≡ Some y → x ≡ y
+    cond_some true x y e = cc
+    cond_some false x y e = absurd cc
 
 -- six bytes that are read as a word are its cell
 word_cell : (m n a b c d : ℕ) (w : Word) → b < 256 → d < 256 → word_in m n a b c d ≡ Some w → cell w ≡ m ∷ n ∷ a ∷ b ∷ c ∷ d ∷ []
@@ -133,32 +123,18 @@ word_cell m n a b c d w h l e =
     ∙ ap (λ s. m ∷ n ∷ (s ++ half (value c d))) (bytes_back a b h)
     ∙ ap (λ s. m ∷ n ∷ a ∷ b ∷ s) (bytes_back c d l)
 
--- a first cell that is a word
-first_known : (k : ℕ) (o : Option Word) (os : List (Option Word)) → unmet is_some k (o ∷ os) ≡ None → (w : Word) × (o ≡ Some w) × (unmet is_some (k + 1) os ≡ None)
-unfolding unmet
-first_known k None os e = let z : ◌≡◌ {A = ℕ} 0 1 = cc in absurd (omega arith)
-first_known k (Some w) os e = (w, refl, e)
-
-known_first : (o : Option Word) (os : List (Option Word)) (w : Word) → o ≡ Some w → known (o ∷ os) ≡ w ∷ known os
-unfolding known
-known_first o os w e = ap (λ x. known (x ∷ os)) e
-
 -- bytes that are read as words are the cells of those
-cells_back : (k j : ℕ) (bs : List ℕ) → length bs ≡ 6 * k → AllByRecursion (λ b. b < 256) bs → unmet is_some j (words_in bs) ≡ None → flat_map cell (known (words_in bs)) ≡ bs
-unfolding words_in known
-cells_back zero j [] h s e = refl
-cells_back zero j (m ∷ bs) h s e = absurd (omega arith)
-cells_back (suc k) j (m ∷ n ∷ a ∷ b ∷ c ∷ d ∷ bs) h s e =
-    let p = first_known j (word_in m n a b c d) (words_in bs) e in
-    ap (flat_map cell) (known_first (word_in m n a b c d) (words_in bs) p.0 p.1)
-    ∙ ap (λ u. u ++ flat_map cell (known (words_in bs))) (word_cell m n a b c d p.0 s.1.1.1.0 s.1.1.1.1.1.0 p.1)
-    ∙ ap (λ u. m ∷ n ∷ a ∷ b ∷ c ∷ d ∷ u) (cells_back k (j + 1) bs (omega arith) s.1.1.1.1.1.1 p.2)
-cells_back (suc k) j [] h s e = absurd (omega arith)
-cells_back (suc k) j (m ∷ []) h s e = absurd (omega arith)
-cells_back (suc k) j (m ∷ n ∷ []) h s e = absurd (omega arith)
-cells_back (suc k) j (m ∷ n ∷ a ∷ []) h s e = absurd (omega arith)
-cells_back (suc k) j (m ∷ n ∷ a ∷ b ∷ []) h s e = absurd (omega arith)
-cells_back (suc k) j (m ∷ n ∷ a ∷ b ∷ c ∷ []) h s e = absurd (omega arith)
+cells_back : (k : ℕ) (bs : List ℕ) (ws : List Word) → length bs ≡ 6 * k → AllByRecursion (λ b. b < 256) bs → words_in bs ≡ map Some ws → flat_map cell ws ≡ bs
+unfolding words_in
+cells_back zero [] [] h s e = refl
+cells_back (suc k) (m ∷ n ∷ a ∷ b ∷ c ∷ d ∷ bs) (w ∷ ws) h s e =
+    let here : word_in m n a b c d ≡ Some w = cc in
+    let rest : words_in bs ≡ map Some ws = cc in
+    ap (λ u. u ++ flat_map cell ws) (word_cell m n a b c d w s.1.1.1.0 s.1.1.1.1.1.0 here)
+    ∙ ap (λ u. m ∷ n ∷ a ∷ b ∷ c ∷ d ∷ u) (cells_back k bs ws (omega arith) s.1.1.1.1.1.1 rest)
+cells_back zero [] (w ∷ ws) h s e = absurd cc
+cells_back (suc k) (m ∷ n ∷ a ∷ b ∷ c ∷ d ∷ bs) [] h s e = absurd cc
+cells_back _ _ _ h s e = absurd (omega arith)
 
 -- how long bytes with a right head are
 headed_length : (bs : List ℕ) → headed bs ≡ true → length bs ≡ image_length (count_in bs)
@@ -180,36 +156,34 @@ head_back (x ∷ y ∷ a ∷ []) h s = absurd (omega (arith, headed_length (x �
 -- nothing was refused
 cond_ok : (b : Bool) (r : Result (List Instruction) Fault) (f : Fault) (xs : List Instruction) → cond b r (Err f) ≡ Ok xs → (b ≡ true) × (r ≡ Ok xs)
 cond_ok true r f xs e = (refl, e)
-cond_ok false r f xs e = let z : ◌≡◌ {A = ℕ} 0 1 = cc in absurd (omega arith)
+cond_ok false r f xs e = absurd cc
 
 cells_ok : (o : Option ℕ) (ws : List Word) (xs : List Instruction) → read_cells o ws ≡ Ok xs → (o ≡ None) × (decoded ws ≡ Ok xs)
 cells_ok None ws xs e = (refl, e)
-cells_ok (Some p) ws xs e = let z : ◌≡◌ {A = ℕ} 0 1 = cc in absurd (omega arith)
+cells_ok (Some p) ws xs e = absurd cc
 
 verdict_ok : (o : Option ℕ) (ys xs : List Instruction) → verdict o ys ≡ Ok xs → (o ≡ None) × (ys ≡ xs)
 verdict_ok None ys xs e = (refl, (let same : ys ≡ xs = cc in same))
-verdict_ok (Some p) ys xs e = let z : ◌≡◌ {A = ℕ} 0 1 = cc in absurd (omega arith)
-
--- the words and the head give the bytes again
-whole_back : (bs : List ℕ) (ws : List Word) (xs : List Instruction) → AllByRecursion (λ b. b < 256) bs → headed bs ≡ true → unmet is_some 0 (words_in (drop 4 bs)) ≡ None → ws ≡ known (words_in (drop 4 bs)) → broken (length ws) ws ≡ None → map instruction_of ws ≡ xs → image_of xs ≡ bs
-whole_back bs ws xs s h c w b x =
-    let q = none_passed (closed (length ws) ws) (unmet (legal (length ws)) 0 ws) 0 b in
-    let size : length bs ≡ image_length (count_in bs) = headed_length bs h in
-    let rest : length (drop 4 bs) ≡ 6 * count_in bs = length-drop 4 bs ∙ omega arith in
-    let count : length (map instruction_of ws) ≡ count_in bs = length-map ws instruction_of ∙ ap length w ∙ words_count bs h c in
-    let cells : flat_map cell ws ≡ drop 4 bs = ap (flat_map cell) w ∙ cells_back (count_in bs) 0 (drop 4 bs) rest (All-drop (λ b. b < 256) 4 bs s) c in
-    ap image_of (sym x)
-    ∙ ap (λ n. head_of n ++ flat_map cell (map word_of (map instruction_of ws))) count
-    ∙ ap (λ vs. head_of (count_in bs) ++ flat_map cell vs) (words_back (length ws) 0 ws q.1)
-    ∙ ap (λ u. head_of (count_in bs) ++ u) cells
-    ∙ head_back bs h s
+verdict_ok (Some p) ys xs e = absurd cc
 
 pub written_back : WrittenBack
 written_back bs xs s e =
-    let h = cond_ok (headed bs) (read_cells (unmet is_some 0 (words_in (drop 4 bs))) (known (words_in (drop 4 bs)))) (NoImage 0) xs e in
-    let c = cells_ok (unmet is_some 0 (words_in (drop 4 bs))) (known (words_in (drop 4 bs))) xs h.1 in
+    let h = cond_ok (headed bs) (read_cells (position_from is_none 0 (words_in (drop 4 bs))) (known (words_in (drop 4 bs)))) (NoImage 0) xs e in
+    let c = cells_ok (position_from is_none 0 (words_in (drop 4 bs))) (known (words_in (drop 4 bs))) xs h.1 in
     let v = verdict_ok (broken (length (known (words_in (drop 4 bs)))) (known (words_in (drop 4 bs)))) (map instruction_of (known (words_in (drop 4 bs)))) xs c.1 in
-    whole_back bs (known (words_in (drop 4 bs))) xs s h.0 c.0 refl v.0 v.1
+    whole_back bs (known (words_in (drop 4 bs))) xs s h.0 (all_known 0 (words_in (drop 4 bs)) c.0) v.0 v.1
+  where
+    whole_back : (bs : List ℕ) (ws : List Word) (xs : List Instruction) → AllByRecursion (λ b. b < 256) bs → headed bs ≡ true → words_in (drop 4 bs) ≡ map Some ws → broken (length ws) ws ≡ None → map instruction_of ws ≡ xs → image_of xs ≡ bs
+    whole_back bs ws xs s h w b x =
+        let size : length bs ≡ image_length (count_in bs) = headed_length bs h in
+        let rest : length (drop 4 bs) ≡ 6 * count_in bs = length-drop 4 bs ∙ omega arith in
+        let count : length (map instruction_of ws) ≡ count_in bs = length-map ws instruction_of ∙ sym (length-map ws Some) ∙ ap length (sym w) ∙ words_length (count_in bs) (drop 4 bs) rest in
+        let cells : flat_map cell ws ≡ drop 4 bs = cells_back (count_in bs) (drop 4 bs) ws rest (All-drop (λ b. b < 256) 4 bs s) w in
+        ap image_of (sym x)
+        ∙ ap (λ n. head_of n ++ flat_map cell (map word_of (map instruction_of ws))) count
+        ∙ ap (λ vs. head_of (count_in bs) ++ flat_map cell vs) (words_back (length ws) 0 ws (unbroken_parts (length ws) ws b).1)
+        ∙ ap (λ u. head_of (count_in bs) ++ u) cells
+        ∙ head_back bs h s
 
 pub one_image : OneImage
 one_image bs cs xs s t e f = sym (written_back bs xs s e) ∙ written_back cs xs t f

@@ -2,5 +2,4 @@ pub mod Finding
 pub mod Placing
 pub mod Cutting
 pub mod Composing
-pub mod Wholes
 pub mod Backs

@@ -1,10 +1,11 @@
 -- The six bytes of an instruction: its mark and two half-words.
-use Rattle.std.specs.Prelude.{ℕ, ◌+◌, ◌*◌, ◌/◌, ◌%◌, Bool, true, cond, ◌&&◌, List, [], ◌∷◌, ◌++◌, Some, None, Option, ◌==◌, slice_index}
+use Rattle.std.specs.Prelude.{ℕ, ◌+◌, ◌-◌, ◌*◌, ◌/◌, ◌%◌, Bool, true, false, cond, ◌&&◌, List, [], ◌∷◌, ◌++◌, length, Some, None, Option, ◌==◌, slice_get, slice_index, option_and_then}
+use Rattle.std.specs.Option.{option_map_or}
 use Rattle.code.specs.declared.instructions.Opcode.{Opcode}
 use Rattle.code.specs.declared.instructions.Operand.{Operand}
 use Rattle.code.specs.declared.instructions.Operand.TheVariants.{Unused, Line, Task, Mode, Condition, Ticks, End, Address, Register, OtherRegister}
 use Rattle.code.specs.declared.instructions.Word.{Word}
-use Rattle.code.specs.Opcodes.{operands_of}
+use Rattle.code.specs.Opcodes.{operands_of, is_end}
 use Rattle.code.specs.Words.{made_of}
 use Rattle.image.specs.Marks.{mark_of, opcodes, found}
 
@@ -23,15 +24,7 @@ cell w = mark_of w.opcode ++ (half w.first ++ half w.second)
 -- Whether a value may stand in an operand of an image: 0 where there is no operand.
 abbrev pub blank : Operand → ℕ → Bool
 blank Unused v = v == 0
-blank Line v = true
-blank Task v = true
-blank Mode v = true
-blank Condition v = true
-blank Ticks v = true
-blank End v = true
-blank Address v = true
-blank Register v = true
-blank OtherRegister v = true
+blank _ v = true
 
 -- Whether the operands that an opcode does not have are 0.
 abbrev pub padded : Opcode → ℕ → ℕ → Bool
@@ -46,9 +39,9 @@ clean (Some o) a b = cond (padded o a b) (Some (made_of o a b)) None
 abbrev pub word_in : ℕ → ℕ → ℕ → ℕ → ℕ → ℕ → Option Word
 word_in m n a b c d = clean (found opcodes m n) (value a b) (value c d)
 
--- The word of the six bytes from a place on.
-abbrev pub word_at : List ℕ → ℕ → Option Word
-word_at bs at = word_in (slice_index bs at) (slice_index bs (at + 1)) (slice_index bs (at + 2)) (slice_index bs (at + 2 + 1)) (slice_index bs (at + 4)) (slice_index bs (at + 4 + 1))
+-- The word of a list of six bytes.
+abbrev pub word_of_cell : List ℕ → Option Word
+word_of_cell c = word_in (slice_index c 0) (slice_index c 1) (slice_index c 2) (slice_index c 3) (slice_index c 4) (slice_index c 5)
 
 -- The words of bytes, six by six; none for six bytes that are no word.
 unfoldable pub words_in : List ℕ → List (Option Word)
@@ -59,3 +52,7 @@ words_in (m ∷ n ∷ []) = []
 words_in (m ∷ n ∷ a ∷ []) = []
 words_in (m ∷ n ∷ a ∷ b ∷ []) = []
 words_in (m ∷ n ∷ a ∷ b ∷ c ∷ []) = []
+
+-- Whether the last of some cells is a word that may end a code.
+abbrev pub ended : List (List ℕ) → Bool
+ended cs = option_map_or (λ w. is_end w.opcode) (option_and_then word_of_cell (slice_get cs (length cs - 1))) false

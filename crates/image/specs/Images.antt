@@ -1,11 +1,11 @@
 -- The image of a code: the letters HE, the count, and six bytes for each instruction.
-use Rattle.std.specs.Prelude.{ℕ, ◌+◌, ◌*◌, Bool, cond, ◌&&◌, List, [], ◌∷◌, ◌++◌, map, length, drop, is_some, Some, None, Ok, Err, codes, Option, Result, ◌==◌, nat_le, slice_index}
-use Rattle.std.specs.List.{flat_map}
+use Rattle.std.specs.Prelude.{ℕ, ◌+◌, ◌*◌, Bool, cond, ◌&&◌, List, [], ◌∷◌, ◌++◌, map, length, drop, is_none, Some, None, Ok, Err, codes, Option, Result, ◌==◌, nat_le, slice_index}
+use Rattle.std.specs.List.{filter_map, flat_map, position_from}
 use Rattle.fault.specs.declared.Fault.{Fault}
 use Rattle.fault.specs.declared.Fault.TheVariants.{NoImage, ShortBuffer}
 use Rattle.code.specs.declared.instructions.Instruction.{Instruction}
 use Rattle.code.specs.declared.instructions.Word.{Word}
-use Rattle.code.specs.Rules.{unmet, broken}
+use Rattle.code.specs.Rules.{broken}
 use Rattle.code.specs.Stores.{verdict}
 use Rattle.code.specs.Words.{word_of, instruction_of}
 use Rattle.image.specs.Cells.{half, value, cell, words_in}
@@ -38,10 +38,8 @@ abbrev pub headed : List ℕ → Bool
 headed bs = (slice_index bs 0 == slice_index (codes "HE") 0 && slice_index bs 1 == slice_index (codes "HE") 1) && length bs == image_length (count_in bs)
 
 -- The words that there are.
-unfoldable pub known : List (Option Word) → List Word
-known [] = []
-known (None ∷ os) = known os
-known (Some w ∷ os) = w ∷ known os
+abbrev pub known : List (Option Word) → List Word
+known os = filter_map (λ o. o) os
 
 -- The code that words stand for, or where they break a rule.
 abbrev pub decoded : List Word → Result (List Instruction) Fault
@@ -54,4 +52,4 @@ read_cells None ws = decoded ws
 
 -- What bytes are read as.
 abbrev pub read_image : List ℕ → Result (List Instruction) Fault
-read_image bs = cond (headed bs) (read_cells (unmet is_some 0 (words_in (drop 4 bs))) (known (words_in (drop 4 bs)))) (Err (NoImage 0))
+read_image bs = cond (headed bs) (read_cells (position_from is_none 0 (words_in (drop 4 bs))) (known (words_in (drop 4 bs)))) (Err (NoImage 0))

@@ -1,5 +1,6 @@
 -- The two letters that stand for each opcode.
-use Rattle.std.specs.Prelude.{ℕ, Bool, cond, ◌&&◌, List, [], ◌∷◌, Some, None, codes, Option, ◌==◌, slice_index}
+use Rattle.std.specs.Prelude.{ℕ, Bool, ◌&&◌, List, [], ◌∷◌, codes, Option, ◌==◌, slice_index}
+use Rattle.std.specs.List.{find}
 use Rattle.code.specs.declared.instructions.Opcode.{Opcode}
 use Rattle.code.specs.declared.instructions.Opcode.TheVariants.{Return, Write, Read, Depend, Expect, Release, Enter, FutureWrite, FutureSwitch, FutureRead, FutureRelease, JumpIf, Jump, Call, Copy, Push, Pop, GetParent, SetParent, Adopt, Delete}
 
@@ -36,6 +37,5 @@ abbrev pub marked : Opcode → ℕ → ℕ → Bool
 marked o m n = slice_index (mark_of o) 0 == m && slice_index (mark_of o) 1 == n
 
 -- The first of some opcodes that has a mark.
-unfoldable pub found : List Opcode → ℕ → ℕ → Option Opcode
-found [] m n = None
-found (o ∷ os) m n = cond (marked o m n) (Some o) (found os m n)
+abbrev pub found : List Opcode → ℕ → ℕ → Option Opcode
+found os m n = find (λ o. marked o m n) os

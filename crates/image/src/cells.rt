@@ -1,67 +1,43 @@
 // An instruction's six bytes: its mark and two half-words, high byte first.
-ghost use Rattle.std.specs.Prelude.{◌≡◌, ◌+◌, ◌≤◌, length, slice_index};
-ghost use Rattle.image.specs.Cells.{value, cell, blank, padded, word_at};
+ghost use Rattle.std.specs.Prelude.{◌≡◌};
+ghost use Rattle.image.specs.Cells.{cell, blank, padded, word_of_cell};
 
 use super::marks::{mark, opcode};
-use code::{Opcode, Operand, Word};
+use code::{Operand, Word};
 
 // The six bytes of a word.
 pub(super) fn six_bytes(word: Word) -> [u8; 6]
     ensures { result ≡ cell word }
 {
-    let letters = mark(word.opcode);
-    [
-        letters[0],
-        letters[1],
-        (word.first / 256) as u8,
-        (word.first % 256) as u8,
-        (word.second / 256) as u8,
-        (word.second % 256) as u8,
-    ]
+    let [m, n] = *mark(word.opcode);
+    let [a, b] = word.first.to_be_bytes();
+    let [c, d] = word.second.to_be_bytes();
+    [m, n, a, b, c, d]
 }
 
-// The word of the six bytes from `at` on, or none if the mark is unknown or an unused operand is not 0.
-pub(super) fn word_at(bytes: &[u8], at: usize) -> Option<Word>
-    requires { at + 6 ≤ length bytes.now }
-    ensures { result ≡ word_at bytes.now at }
+// The word of six bytes, or none if the mark is unknown or an unused operand is not 0.
+pub(super) fn word(cell: &[u8; 6]) -> Option<Word>
+    ensures { result ≡ word_of_cell cell.now }
 {
-    let first = half_at(bytes, at + 2);
-    let second = half_at(bytes, at + 4);
-    let Some(opcode) = opcode(bytes[at], bytes[at + 1]) else {
-        return None;
+    let [m, n, a, b, c, d] = *cell;
+    let word = Word {
+        opcode: opcode(m, n)?,
+        first: u16::from_be_bytes([a, b]),
+        second: u16::from_be_bytes([c, d]),
     };
-    if is_padded(opcode, first, second) {
-        Some(Word {
-            opcode,
-            first,
-            second,
-        })
-    } else {
-        None
-    }
+    is_padded(word).then_some(word)
 }
 
-// The half-word of two bytes.
-pub(super) fn half_at(bytes: &[u8], at: usize) -> u16
-    requires { at + 2 ≤ length bytes.now }
-    ensures { result ≡ value (slice_index bytes.now at) (slice_index bytes.now (at + 1)) }
+// Whether the operands that a word's opcode does not have are 0.
+fn is_padded(word: Word) -> bool
+    ensures { result ≡ padded word.opcode word.first word.second }
 {
-    bytes[at] as u16 * 256 + bytes[at + 1] as u16
-}
-
-// Whether the operands that an opcode does not have are 0.
-fn is_padded(opcode: Opcode, first: u16, second: u16) -> bool
-    ensures { result ≡ padded opcode first second }
-{
-    let (one, two) = opcode.operands();
-    is_blank(one, first) && is_blank(two, second)
+    let (first, second) = word.opcode.operands();
+    is_blank(first, word.first) && is_blank(second, word.second)
 }
 
 fn is_blank(operand: Operand, value: u16) -> bool
     ensures { result ≡ blank operand value }
 {
-    match operand {
-        Operand::Unused => value == 0,
-        _ => true,
-    }
+    operand != Operand::Unused || value == 0
 }

@@ -65,25 +65,15 @@ pub fn mark(opcode: Opcode) -> &'static [u8; 2]
 pub fn opcode(first: u8, second: u8) -> Option<Opcode>
     ensures { result ≡ found opcodes first second }
 {
-    find(&OPCODES, first, second)
-}
-
-// The opcode of a mark among some.
-fn find(among: &[Opcode], first: u8, second: u8) -> Option<Opcode>
-    ensures { result ≡ found among.now first second }
-{
-    for candidate in among {
-        if is_marked(*candidate, first, second) {
-            return Some(*candidate);
-        }
-    }
-    None
+    OPCODES
+        .iter()
+        .copied()
+        .find(|candidate| is_marked(*candidate, first, second))
 }
 
 // Whether two letters are the mark of an opcode.
 fn is_marked(opcode: Opcode, first: u8, second: u8) -> bool
     ensures { result ≡ marked opcode first second }
 {
-    let letters = mark(opcode);
-    letters[0] == first && letters[1] == second
+    *mark(opcode) == [first, second]
 }

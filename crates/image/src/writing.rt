@@ -34,16 +34,17 @@ fn head(count: usize) -> [u8; 4]
     requires { count < 65536 }
     ensures { result ≡ head_of count }
 {
-    [HEAD[0], HEAD[1], (count / 256) as u8, (count % 256) as u8]
+    let [high, low] = (count as u16).to_be_bytes();
+    [HEAD[0], HEAD[1], high, low]
 }
 
-// Puts the cells of a code into a buffer, after the first four bytes.
+// Puts the cells of a code into a buffer, after the first four bytes; by place, since what is written through chunks_exact_mut is not known afterwards.
 fn put_cells(buffer: &mut [u8], code: &[Instruction])
     requires { image_length (length code.now) ≤ length buffer.old }
     ensures { buffer.new ≡ (take 4 buffer.old ++ flat_map cell (map word_of code.now)) ++ drop (image_length (length code.now)) buffer.old }
 {
-    for k in 0..code.len() {
-        put(buffer, 4 + 6 * k, &six_bytes(code[k].word()));
+    for (k, instruction) in code.iter().enumerate() {
+        put(buffer, 4 + 6 * k, &six_bytes(instruction.word()));
     }
 }
 

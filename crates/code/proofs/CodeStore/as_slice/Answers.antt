@@ -1,7 +1,6 @@
-use Rattle.std.proofs.Common.{length, refl}
-use Rattle.code.specs.Stores.{instructions}
-use Rattle.code.proofs.Storing.{sound_unbroken}
+use Rattle.std.proofs.Common.{rules}
+use Rattle.code.proofs.Storing.{store_sound}
 use Rattle.code.proofs.CodeStore.as_slice.Goals as goal
 
-pub returns-clause-sound : goal.returns-clause-sound
-returns-clause-sound c = rw c.as_slice.ensures.value (sound_unbroken (length (instructions c.args.self.now)) (instructions c.args.self.now) refl c.args.self.now.unbroken)
+pub returns : goal.returns
+returns c = record { value = search rules; sound = rw c.as_slice.ensures.value (store_sound c.args.self.now) }

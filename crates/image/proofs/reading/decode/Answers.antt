@@ -1,39 +1,33 @@
-use Rattle.std.proofs.Common.{◌≡◌, ◌<◌, ◌≤◌, map, length, get_or, take, sym, ap, ◌∙◌, arith, below_more}
+use Rattle.std.proofs.Common.{◌≡◌, Some, None, Err, length, map, take, sym, ap, ◌∙◌, inl, inr, below_more, arith, rules}
 use Rattle.std.proofs.lemmas.List.{length-set}
-use Rattle.code.specs.declared.instructions.Instruction.TheVariants.{Return}
-use Rattle.code.specs.Rules.{legal}
-use Rattle.code.specs.Words.{word_of, instruction_of}
-use Rattle.image.proofs.Composing.{decoded_some, decoded_none, composed_more, ill_ended, ill_placed, composed}
+use Rattle.fault.specs.declared.Fault.TheVariants.{BadCode}
+use Rattle.code.specs.Stores.{held}
+use Rattle.code.specs.Words.{instruction_of}
+use Rattle.image.proofs.Composing.{too_many, ill_ended, ill_placed, composed_more, composed}
 use Rattle.image.proofs.reading.decode.Goals as goal
+use Rattle.image.proofs.reading.decode.Goals.{then-len-gt-MOST_INSTRUCTIONS-via-then-len-gt-MOST_INSTRUCTIONS, then-len-gt-MOST_INSTRUCTIONS-via-else-len-gt-MOST_INSTRUCTIONS+then-not-ends}
 
-pub returns-then-not-is_end : goal.returns-then-not-is_end
-returns-then-not-is_end c =
-    let some : 0 < c.args.count = omega arith in
-    ill_ended c.args.words.now c.args.count (map instruction_of (take c.args.count c.args.words.now)) some (sym c.if-not-is_end.ensures)
+pub returns-then-len-gt-MOST_INSTRUCTIONS : goal.returns-then-len-gt-MOST_INSTRUCTIONS
+returns-then-len-gt-MOST_INSTRUCTIONS g c =
+    elim c.then-len-gt-MOST_INSTRUCTIONS.branch [ then-len-gt-MOST_INSTRUCTIONS-via-then-len-gt-MOST_INSTRUCTIONS w ↦ too_many c.args.cells.now g.words c.requires w.if-len-gt-MOST_INSTRUCTIONS.true | then-len-gt-MOST_INSTRUCTIONS-via-else-len-gt-MOST_INSTRUCTIONS+then-not-ends w ↦ ill_ended c.args.cells.now g.words c.requires w.if-len-gt-MOST_INSTRUCTIONS.false (sym w.ends.ensures ∙ w.if-not-ends.true) ]
 
-pub loop-k-preserved : goal.loop-k-preserved
-loop-k-preserved c =
-    let p = decoded_some (legal c.args.count (get_or c.args.words.now c.loop-k.k (word_of Return))) c.in-Some.instruction (instruction_of (get_or c.args.words.now c.loop-k.k (word_of Return))) c.in-Some.ensures.value in
-    let inside : c.loop-k.k < length c.loop-k.code = omega arith in
-    let near : c.loop-k.k < length c.args.words.now = omega arith in (
-      below_more _ _ c.loop-k.invariant.0 p.0,
-      composed_more c.loop-k.code c.args.words.now c.loop-k.k c.in-Some.instruction inside near p.1 c.loop-k.invariant.1,
-      length-set c.loop-k.code c.loop-k.k c.in-Some.instruction ∙ c.loop-k.invariant.2,
+pub returns-in_err-code : goal.returns-in_err-code
+returns-in_err-code g c =
+    let none : c.instruction.result ≡ None = search rules in
+    let refused : held c.from_residual.result ≡ Err (BadCode c.loop-place.place) = search rules in
+    refused ∙ ill_placed c.args.cells.now g.words c.loop-place.place c.requires c.if-len-gt-MOST_INSTRUCTIONS.false (sym c.ends.ensures ∙ c.if-not-ends.false) c.loop-place-test.true c.loop-place.invariant.0 (sym none ∙ c.instruction.ensures)
+
+pub loop-place-preserved : goal.loop-place-preserved
+loop-place-preserved g c =
+    let some : c.instruction.result ≡ Some c.in_ok-code.field-0 = search rules in
+    let p = composed_more c.args.cells.now g.words c.loop-place.code c.loop-place.place c.in_ok-code.field-0 c.requires (omega arith) (omega arith) (sym some ∙ c.instruction.ensures) c.loop-place.invariant.1 in (
+      below_more _ _ c.loop-place.invariant.0 p.0,
+      p.1,
+      length-set c.loop-place.code c.loop-place.place c.in_ok-code.field-0 ∙ c.loop-place.invariant.2,
     )
 
-pub returns-in_default : goal.returns-in_default
-returns-in_default c =
-    let whole : c.args.count ≤ length c.args.words.now = omega arith in
-    let few : c.args.count ≤ 4096 = omega arith in
-    ill_placed c.args.words.now c.args.count c.loop-k.k (map instruction_of (take c.args.count c.args.words.now)) whole c.loop-k-test.true few (sym c.if-not-is_end.ensures) c.loop-k.invariant.0
-    (decoded_none (legal c.args.count (get_or c.args.words.now c.loop-k.k (word_of Return))) (instruction_of (get_or c.args.words.now c.loop-k.k (word_of Return))) c.in_default.ensures.value)
-
 pub returns : goal.returns
-returns c =
-    let whole : c.args.count ≤ length c.args.words.now = omega arith in
-    let few : c.args.count ≤ 4096 = omega arith in
-    let some : 0 < c.args.count = omega arith in
-    let end : c.loop-k.k ≡ c.args.count = omega arith in
-    c.new.ensures.value
-    ∙ composed c.args.words.now c.args.count (take c.args.count c.loop-k.code) whole some few (λ j h. c.loop-k.invariant.0 j (omega arith))
-    (ap (λ n. take n c.loop-k.code) (sym end) ∙ c.loop-k.invariant.1 ∙ ap (λ n. map instruction_of (take n c.args.words.now)) end)
+returns g c =
+    let end : c.loop-place.place ≡ length c.args.cells.now = omega arith in
+    let taken : take (length c.args.cells.now) c.loop-place.code ≡ map instruction_of (take (length c.args.cells.now) g.words) = ap (λ n. take n c.loop-place.code) (sym end) ∙ c.loop-place.invariant.1 ∙ ap (λ n. map instruction_of (take n g.words)) end in
+    c.new.ensures.value ∙ composed c.args.cells.now g.words (take (length c.args.cells.now) c.loop-place.code) c.requires (λ j h. c.loop-place.invariant.0 j (omega arith)) taken

@@ -4,5 +4,5 @@ use Rattle.code.specs.Rules.{legal}
 use Rattle.code.specs.Words.{word_of, instruction_of}
 use Rattle.image.proofs.reading.decode.Given as goal
 
-abbrev pub invariant-loop-k : goal.invariant-loop-k
-invariant-loop-k l = ((j : ℕ) → j < l.k → legal l.count (get_or l.words j (word_of Return)) ≡ true) × (take l.k l.code ≡ map instruction_of (take l.k l.words)) × (length l.code ≡ 4096)
+abbrev pub invariant-loop-place : goal.invariant-loop-place
+invariant-loop-place g l = ((j : ℕ) → j < l.place → legal l.len (get_or g.words j (word_of Return)) ≡ true) × (take l.place l.code ≡ map instruction_of (take l.place g.words)) × (length l.code ≡ 4096)

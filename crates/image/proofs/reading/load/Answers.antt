@@ -1,7 +1,7 @@
-use Rattle.code.specs.Stores.{held}
-use Rattle.image.proofs.Wholes.{read_whole}
+use Rattle.std.proofs.Common.{map, sym}
+use Rattle.image.specs.Cells.{word_of_cell}
+use Rattle.image.proofs.Cutting.{all_known}
 use Rattle.image.proofs.reading.load.Goals as goal
 
-pub returns : goal.returns
-returns c =
-    read_whole c.args.bytes.now c.in_ok-count.count c.in_ok-words.words (held c.decode.result) c.in_ok-count.ensures c.in_ok-words.ensures c.decode.ensures
+pub decode-requires : goal.decode-requires
+decode-requires c = all_known 0 (map word_of_cell c.in_ok-cells.cells.now) (sym c.in-None.ensures)
