@@ -32,8 +32,7 @@ fn tables(rt: &HostRuntime, name: &str) -> io::Result<()> {
 
 // Writes and reads the largest image again and again; how many bytes and instructions that were in all.
 fn images(rt: &HostRuntime) -> io::Result<()> {
-    let Ok(store) = CodeStore::new([Instruction::Return; MOST_INSTRUCTIONS], MOST_INSTRUCTIONS)
-    else {
+    let Ok(store) = CodeStore::new(&[Instruction::Return; MOST_INSTRUCTIONS]) else {
         return println!(rt; "no code");
     };
     let mut buffer = vec![in rt.alloc(); 0u8; IMAGE_BYTES]?;

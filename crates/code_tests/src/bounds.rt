@@ -1,68 +1,33 @@
 // Every operand at the edge of its range: the last that is allowed and the first that is refused.
-use code::{CodeStore, Instruction, MOST_INSTRUCTIONS, Register};
+use super::cells::cell;
+use code::{CodeStore, Instruction, Register};
 use fault::Fault;
 use image::read;
 use std::process::Abort;
 
-#[derive(Clone, Copy)]
-enum Answer {
-    Taken,
-    NoImage,
-    BadCode,
-}
+// How the row between two returns is answered.
+const TAKEN: Option<Fault> = None;
 
-#[derive(Clone, Copy)]
-struct Row {
-    letters: [u8; 2],
-    first: u16,
-    second: u16,
-    answer: Answer,
-}
+const NO_IMAGE: Option<Fault> = Some(Fault::NoImage { place: 1 });
 
-fn taken(letters: &[u8; 2], first: u16, second: u16) -> Row {
-    Row {
-        letters: *letters,
-        first,
-        second,
-        answer: Answer::Taken,
-    }
-}
+const BAD_CODE: Option<Fault> = Some(Fault::BadCode { place: 1 });
 
-fn no_image(letters: &[u8; 2], first: u16, second: u16) -> Row {
-    Row {
-        letters: *letters,
-        first,
-        second,
-        answer: Answer::NoImage,
-    }
-}
-
-fn bad_code(letters: &[u8; 2], first: u16, second: u16) -> Row {
-    Row {
-        letters: *letters,
-        first,
-        second,
-        answer: Answer::BadCode,
-    }
-}
-
-// The row between two returns.
-fn image(row: Row) -> [u8; 22] {
-    let [a, b] = row.first.to_be_bytes();
-    let [c, d] = row.second.to_be_bytes();
-    let [m, n] = row.letters;
+// The image of a cell between two returns.
+fn image(cell: [u8; 6]) -> [u8; 22] {
+    let [m, n, a, b, c, d] = cell;
     [
         b'H', b'E', 0, 3, b'R', b'T', 0, 0, 0, 0, m, n, a, b, c, d, b'R', b'T', 0, 0, 0, 0,
     ]
 }
 
-fn answered(rt: &impl Abort, rows: &[Row]) {
-    for row in rows {
-        let refused = read(&image(*row)).err();
-        match row.answer {
-            Answer::Taken => assert_eq!(rt; refused, None),
-            Answer::NoImage => assert_eq!(rt; refused, Some(Fault::NoImage { place: 1 })),
-            Answer::BadCode => assert_eq!(rt; refused, Some(Fault::BadCode { place: 1 })),
+// Each of some marks, with each of some pairs of operands.
+fn answered(rt: &impl Abort, marks: &[[u8; 2]], rows: &[(u16, u16, Option<Fault>)]) {
+    for letters in marks {
+        for (first, second, answer) in rows {
+            assert_eq!(rt;
+                read(&image(cell(*letters, *first, *second))).err(),
+                *answer
+            );
         }
     }
 }
@@ -71,19 +36,12 @@ fn answered(rt: &impl Abort, rows: &[Row]) {
 fn lines(rt: HostRuntime) {
     answered(
         &rt,
+        &[*b"CW", *b"CR", *b"CD"],
         &[
-            taken(b"CW", 127, 0),
-            bad_code(b"CW", 128, 0),
-            bad_code(b"CW", 300, 0),
-            no_image(b"CW", 0, 1),
-            taken(b"CR", 127, 0),
-            bad_code(b"CR", 128, 0),
-            bad_code(b"CR", 300, 0),
-            no_image(b"CR", 0, 1),
-            taken(b"CD", 127, 0),
-            bad_code(b"CD", 128, 0),
-            bad_code(b"CD", 300, 0),
-            no_image(b"CD", 0, 1),
+            (127, 0, TAKEN),
+            (128, 0, BAD_CODE),
+            (300, 0, BAD_CODE),
+            (0, 1, NO_IMAGE),
         ],
     );
 }
@@ -92,19 +50,19 @@ fn lines(rt: HostRuntime) {
 fn tasks_and_modes(rt: HostRuntime) {
     answered(
         &rt,
+        &[*b"EX"],
         &[
-            taken(b"EX", 63, 1),
-            taken(b"EX", 0, 65535),
-            bad_code(b"EX", 64, 1),
-            bad_code(b"EX", 300, 1),
-            bad_code(b"EX", 63, 0),
-            taken(b"RL", 63, 0),
-            bad_code(b"RL", 64, 0),
-            no_image(b"RL", 0, 1),
-            taken(b"EN", 63, 0),
-            bad_code(b"EN", 64, 0),
-            no_image(b"EN", 0, 1),
+            (63, 1, TAKEN),
+            (0, 65535, TAKEN),
+            (64, 1, BAD_CODE),
+            (300, 1, BAD_CODE),
+            (63, 0, BAD_CODE),
         ],
+    );
+    answered(
+        &rt,
+        &[*b"RL", *b"EN"],
+        &[(63, 0, TAKEN), (64, 0, BAD_CODE), (0, 1, NO_IMAGE)],
     );
 }
 
@@ -112,35 +70,38 @@ fn tasks_and_modes(rt: HostRuntime) {
 fn addresses(rt: HostRuntime) {
     answered(
         &rt,
+        &[*b"WF", *b"SF", *b"RF"],
+        &[(0, 2, TAKEN), (65535, 0, TAKEN), (0, 3, BAD_CODE)],
+    );
+    answered(
+        &rt,
+        &[*b"PF"],
+        &[(63, 2, TAKEN), (64, 2, BAD_CODE), (63, 3, BAD_CODE)],
+    );
+    answered(
+        &rt,
+        &[*b"JI"],
         &[
-            taken(b"WF", 0, 2),
-            taken(b"WF", 65535, 0),
-            bad_code(b"WF", 0, 3),
-            taken(b"SF", 0, 2),
-            taken(b"SF", 65535, 0),
-            bad_code(b"SF", 0, 3),
-            taken(b"RF", 0, 2),
-            taken(b"RF", 65535, 0),
-            bad_code(b"RF", 0, 3),
-            taken(b"PF", 63, 2),
-            bad_code(b"PF", 64, 2),
-            bad_code(b"PF", 63, 3),
-            taken(b"JI", 0, 2),
-            taken(b"JI", 255, 2),
-            bad_code(b"JI", 256, 2),
-            bad_code(b"JI", 255, 3),
-            taken(b"JP", 2, 0),
-            bad_code(b"JP", 3, 0),
-            bad_code(b"JP", 65535, 0),
-            no_image(b"JP", 0, 1),
-            taken(b"JS", 2, 0),
-            bad_code(b"JS", 3, 0),
-            bad_code(b"JS", 65535, 0),
-            no_image(b"JS", 0, 1),
-            taken(b"RT", 0, 0),
-            no_image(b"RT", 1, 0),
-            no_image(b"RT", 0, 1),
+            (0, 2, TAKEN),
+            (255, 2, TAKEN),
+            (256, 2, BAD_CODE),
+            (255, 3, BAD_CODE),
         ],
+    );
+    answered(
+        &rt,
+        &[*b"JP", *b"JS"],
+        &[
+            (2, 0, TAKEN),
+            (3, 0, BAD_CODE),
+            (65535, 0, BAD_CODE),
+            (0, 1, NO_IMAGE),
+        ],
+    );
+    answered(
+        &rt,
+        &[*b"RT"],
+        &[(0, 0, TAKEN), (1, 0, NO_IMAGE), (0, 1, NO_IMAGE)],
     );
 }
 
@@ -148,31 +109,14 @@ fn addresses(rt: HostRuntime) {
 fn registers(rt: HostRuntime) {
     answered(
         &rt,
+        &[*b"CP", *b"GP", *b"SP", *b"AC"],
         &[
-            taken(b"CP", 3, 0),
-            taken(b"CP", 0, 3),
-            bad_code(b"CP", 3, 3),
-            bad_code(b"CP", 0, 0),
-            bad_code(b"CP", 4, 0),
-            bad_code(b"CP", 0, 4),
-            taken(b"GP", 3, 0),
-            taken(b"GP", 0, 3),
-            bad_code(b"GP", 3, 3),
-            bad_code(b"GP", 0, 0),
-            bad_code(b"GP", 4, 0),
-            bad_code(b"GP", 0, 4),
-            taken(b"SP", 3, 0),
-            taken(b"SP", 0, 3),
-            bad_code(b"SP", 3, 3),
-            bad_code(b"SP", 0, 0),
-            bad_code(b"SP", 4, 0),
-            bad_code(b"SP", 0, 4),
-            taken(b"AC", 3, 0),
-            taken(b"AC", 0, 3),
-            bad_code(b"AC", 3, 3),
-            bad_code(b"AC", 0, 0),
-            bad_code(b"AC", 4, 0),
-            bad_code(b"AC", 0, 4),
+            (3, 0, TAKEN),
+            (0, 3, TAKEN),
+            (3, 3, BAD_CODE),
+            (0, 0, BAD_CODE),
+            (4, 0, BAD_CODE),
+            (0, 4, BAD_CODE),
         ],
     );
 }
@@ -181,170 +125,117 @@ fn registers(rt: HostRuntime) {
 fn single_registers_and_marks(rt: HostRuntime) {
     answered(
         &rt,
+        &[*b"PU", *b"PO", *b"DC"],
         &[
-            taken(b"PU", 3, 0),
-            bad_code(b"PU", 4, 0),
-            bad_code(b"PU", 65535, 0),
-            no_image(b"PU", 0, 1),
-            taken(b"PO", 3, 0),
-            bad_code(b"PO", 4, 0),
-            bad_code(b"PO", 65535, 0),
-            no_image(b"PO", 0, 1),
-            taken(b"DC", 3, 0),
-            bad_code(b"DC", 4, 0),
-            bad_code(b"DC", 65535, 0),
-            no_image(b"DC", 0, 1),
-            no_image(b"XX", 0, 0),
-            no_image(b"CX", 0, 0),
-            no_image(b"XW", 0, 0),
-            no_image(b"cw", 0, 0),
-            no_image(b"WC", 0, 0),
-            no_image(b"HE", 0, 0),
+            (3, 0, TAKEN),
+            (4, 0, BAD_CODE),
+            (65535, 0, BAD_CODE),
+            (0, 1, NO_IMAGE),
         ],
     );
+    answered(
+        &rt,
+        &[*b"XX", *b"CX", *b"XW", *b"cw", *b"WC", *b"HE"],
+        &[(0, 0, NO_IMAGE)],
+    );
+}
+
+// How a code of an instruction between two returns is answered.
+fn made(instruction: Instruction) -> Option<Fault> {
+    CodeStore::new(&[Instruction::Return, instruction, Instruction::Return]).err()
 }
 
 #[test]
 fn instructions(rt: HostRuntime) {
-    let rows = [
-        (Instruction::Write { line: 127 }, true),
-        (Instruction::Write { line: 128 }, false),
-        (Instruction::Read { line: 127 }, true),
-        (Instruction::Read { line: 128 }, false),
-        (Instruction::Depend { line: 127 }, true),
-        (Instruction::Depend { line: 128 }, false),
-        (Instruction::Expect { task: 63, end: 1 }, true),
-        (Instruction::Expect { task: 64, end: 1 }, false),
-        (Instruction::Expect { task: 63, end: 0 }, false),
-        (Instruction::Release { task: 63 }, true),
-        (Instruction::Release { task: 64 }, false),
-        (Instruction::Enter { mode: 63 }, true),
-        (Instruction::Enter { mode: 64 }, false),
-        (
-            Instruction::FutureWrite {
-                ticks: 65535,
-                address: 2,
-            },
-            true,
-        ),
-        (
-            Instruction::FutureWrite {
-                ticks: 0,
-                address: 3,
-            },
-            false,
-        ),
-        (
-            Instruction::FutureSwitch {
-                ticks: 65535,
-                address: 2,
-            },
-            true,
-        ),
-        (
-            Instruction::FutureSwitch {
-                ticks: 0,
-                address: 3,
-            },
-            false,
-        ),
-        (
-            Instruction::FutureRead {
-                ticks: 65535,
-                address: 2,
-            },
-            true,
-        ),
-        (
-            Instruction::FutureRead {
-                ticks: 0,
-                address: 3,
-            },
-            false,
-        ),
-        (
-            Instruction::FutureRelease {
-                task: 63,
-                address: 2,
-            },
-            true,
-        ),
-        (
-            Instruction::FutureRelease {
-                task: 64,
-                address: 2,
-            },
-            false,
-        ),
-        (
-            Instruction::FutureRelease {
-                task: 63,
-                address: 3,
-            },
-            false,
-        ),
-        (
-            Instruction::JumpIf {
-                condition: 255,
-                address: 2,
-            },
-            true,
-        ),
-        (
-            Instruction::JumpIf {
-                condition: 255,
-                address: 3,
-            },
-            false,
-        ),
-        (Instruction::Jump { address: 2 }, true),
-        (Instruction::Jump { address: 3 }, false),
-        (Instruction::Call { address: 2 }, true),
-        (Instruction::Call { address: 3 }, false),
-        (
-            Instruction::Copy {
-                to: Register::R3,
-                from: Register::R0,
-            },
-            true,
-        ),
-        (
-            Instruction::Copy {
-                to: Register::R3,
-                from: Register::R3,
-            },
-            false,
-        ),
-        (
-            Instruction::GetParent {
-                to: Register::R2,
-                of: Register::R2,
-            },
-            false,
-        ),
-        (
-            Instruction::SetParent {
-                of: Register::R1,
-                to: Register::R1,
-            },
-            false,
-        ),
-        (
-            Instruction::Adopt {
-                from: Register::R0,
-                to: Register::R0,
-            },
-            false,
-        ),
+    let allowed = [
+        Instruction::Write { line: 127 },
+        Instruction::Read { line: 127 },
+        Instruction::Depend { line: 127 },
+        Instruction::Expect { task: 63, end: 1 },
+        Instruction::Release { task: 63 },
+        Instruction::Enter { mode: 63 },
+        Instruction::FutureWrite {
+            ticks: 65535,
+            address: 2,
+        },
+        Instruction::FutureSwitch {
+            ticks: 65535,
+            address: 2,
+        },
+        Instruction::FutureRead {
+            ticks: 65535,
+            address: 2,
+        },
+        Instruction::FutureRelease {
+            task: 63,
+            address: 2,
+        },
+        Instruction::JumpIf {
+            condition: 255,
+            address: 2,
+        },
+        Instruction::Jump { address: 2 },
+        Instruction::Call { address: 2 },
+        Instruction::Copy {
+            to: Register::R3,
+            from: Register::R0,
+        },
     ];
-    for (instruction, allowed) in rows {
-        let mut code = [Instruction::Return; MOST_INSTRUCTIONS];
-        code[1] = instruction;
-        let refused = CodeStore::new(code, 3).err();
-        if allowed {
-            assert_eq!(rt; refused, None);
-        } else {
-            assert_eq!(rt; refused, Some(Fault::BadCode { place: 1 }));
-        }
+    for instruction in allowed {
+        assert_eq!(rt; made(instruction), TAKEN);
+    }
+    let refused = [
+        Instruction::Write { line: 128 },
+        Instruction::Read { line: 128 },
+        Instruction::Depend { line: 128 },
+        Instruction::Expect { task: 64, end: 1 },
+        Instruction::Expect { task: 63, end: 0 },
+        Instruction::Release { task: 64 },
+        Instruction::Enter { mode: 64 },
+        Instruction::FutureWrite {
+            ticks: 0,
+            address: 3,
+        },
+        Instruction::FutureSwitch {
+            ticks: 0,
+            address: 3,
+        },
+        Instruction::FutureRead {
+            ticks: 0,
+            address: 3,
+        },
+        Instruction::FutureRelease {
+            task: 64,
+            address: 2,
+        },
+        Instruction::FutureRelease {
+            task: 63,
+            address: 3,
+        },
+        Instruction::JumpIf {
+            condition: 255,
+            address: 3,
+        },
+        Instruction::Jump { address: 3 },
+        Instruction::Call { address: 3 },
+        Instruction::Copy {
+            to: Register::R3,
+            from: Register::R3,
+        },
+        Instruction::GetParent {
+            to: Register::R2,
+            of: Register::R2,
+        },
+        Instruction::SetParent {
+            of: Register::R1,
+            to: Register::R1,
+        },
+        Instruction::Adopt {
+            from: Register::R0,
+            to: Register::R0,
+        },
+    ];
+    for instruction in refused {
+        assert_eq!(rt; made(instruction), BAD_CODE);
     }
 }

@@ -4,6 +4,8 @@
 #[cfg(test)]
 mod bounds;
 #[cfg(test)]
+mod cells;
+#[cfg(test)]
 mod every_mark;
 #[cfg(test)]
 mod whole;

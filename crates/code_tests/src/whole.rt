@@ -1,44 +1,48 @@
 // Codes and images as a whole: lengths, ends, the order of refusals, and the buffer.
-use code::{CodeStore, Instruction, MOST_INSTRUCTIONS};
+use code::{CodeStore, Instruction};
 use fault::Fault;
 use image::{read, write};
 use std::test::Fail;
 
-fn returns(len: usize) -> Result<CodeStore, Fault> {
-    CodeStore::new([Instruction::Return; MOST_INSTRUCTIONS], len)
-}
+const RETURNS: [Instruction; 4097] = [Instruction::Return; 4097];
 
 #[test]
 fn lengths_and_ends(rt: HostRuntime) {
-    assert_eq!(rt; returns(0).err(), Some(Fault::BadCode { place: 0 }));
-    assert_eq!(rt; returns(1).err(), None);
-    assert_eq!(rt; returns(4096).err(), None);
-    assert_eq!(rt; returns(4097).err(), Some(Fault::BadCode { place: 0 }));
-    let mut code = [Instruction::Return; MOST_INSTRUCTIONS];
-    code[1] = Instruction::Write { line: 128 };
-    code[2] = Instruction::Call { address: 0 };
     assert_eq!(rt;
-        CodeStore::new(code, 3).err(),
+        CodeStore::new(&[]).err(),
+        Some(Fault::BadCode { place: 0 })
+    );
+    assert_eq!(rt; CodeStore::new(&RETURNS[..1]).err(), None);
+    assert_eq!(rt; CodeStore::new(&RETURNS[..4096]).err(), None);
+    assert_eq!(rt;
+        CodeStore::new(&RETURNS).err(),
+        Some(Fault::BadCode { place: 0 })
+    );
+    let mut code = [
+        Instruction::Return,
+        Instruction::Write { line: 128 },
+        Instruction::Call { address: 0 },
+    ];
+    assert_eq!(rt;
+        CodeStore::new(&code).err(),
         Some(Fault::BadCode { place: 0 })
     );
     code[2] = Instruction::Jump { address: 9 };
     assert_eq!(rt;
-        CodeStore::new(code, 3).err(),
+        CodeStore::new(&code).err(),
         Some(Fault::BadCode { place: 1 })
     );
-    assert_eq!(rt; CodeStore::new(code, 1).err(), None);
+    assert_eq!(rt; CodeStore::new(&code[..1]).err(), None);
 }
 
 #[test]
 fn past_the_end_stands_a_return(rt: HostRuntime) -> Result<(), Fail> {
-    let mut code = [Instruction::Return; MOST_INSTRUCTIONS];
-    code[0] = Instruction::Jump { address: 0 };
-    code[1] = Instruction::Jump { address: 0 };
-    let store = CodeStore::new(code, 1)?;
+    let code = [Instruction::Jump { address: 0 }; 2];
+    let store = CodeStore::new(&code[..1])?;
     assert_eq!(rt; store.len(), 1);
-    assert!(rt; matches!(store.fetch(0), Instruction::Jump { address: 0 }));
-    assert!(rt; matches!(store.fetch(1), Instruction::Return));
-    assert!(rt; matches!(store.fetch(65535), Instruction::Return));
+    assert_eq!(rt; store.fetch(0), Instruction::Jump { address: 0 });
+    assert_eq!(rt; store.fetch(1), Instruction::Return);
+    assert_eq!(rt; store.fetch(65535), Instruction::Return);
     Ok(())
 }
 
@@ -68,13 +72,10 @@ fn what_is_no_image_comes_first(rt: HostRuntime) {
 // The image of 4,097 returns.
 fn many() -> [u8; 24586] {
     let mut bytes = [0; 24586];
-    bytes[0] = b'H';
-    bytes[1] = b'E';
-    bytes[2] = 16;
-    bytes[3] = 1;
-    for k in 0..4097 {
-        bytes[4 + 6 * k] = b'R';
-        bytes[5 + 6 * k] = b'T';
+    bytes[..4].copy_from_slice(b"HE\x10\x01");
+    let (cells, _) = bytes[4..].as_chunks_mut();
+    for cell in cells {
+        *cell = *b"RT\0\0\0\0";
     }
     bytes
 }
@@ -88,12 +89,12 @@ fn too_many_instructions(rt: HostRuntime) {
     bytes[3] = 0;
     let all: &[u8] = &bytes;
     assert!(rt; all.len() > 24580);
-    assert_eq!(rt; read(&all[0..24580]).err(), None);
+    assert_eq!(rt; read(&all[..24580]).err(), None);
 }
 
 #[test]
 fn the_buffer_is_kept(rt: HostRuntime) -> Result<(), Fail> {
-    let store = returns(1)?;
+    let store = CodeStore::new(&[Instruction::Return])?;
     let mut long = [7; 12];
     assert_eq!(rt; write(&store, &mut long)?, 10);
     assert_eq!(rt; long, *b"HE\0\x01RT\0\0\0\0\x07\x07");

@@ -9,7 +9,7 @@ use Rattle.std.specs.List.{flat_map, position_from, AllByRecursion}
 use Rattle.code.specs.declared.instructions.Instruction.{Instruction}
 use Rattle.code.specs.declared.instructions.Opcode.{Opcode}
 use Rattle.code.specs.declared.instructions.Operand.{Operand}
-use Rattle.code.specs.declared.instructions.Operand.TheVariants.{Unused, Line, Task, Mode, Condition, Ticks, End, Address, Register, OtherRegister}
+use Rattle.code.specs.declared.instructions.Operand.TheVariants.{Unused}
 use Rattle.code.specs.declared.instructions.Word.{Word}
 use Rattle.code.specs.Opcodes.{operands_of}
 use Rattle.code.specs.Promises.{Sound}

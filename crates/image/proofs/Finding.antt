@@ -1,9 +1,7 @@
 -- Marks and the search for them.
-use Rattle.std.proofs.Common.{◌≡◌, ℕ, ◌+◌, ◌<◌, ◌≤◌, Bool, true, false, cond, List, [], ◌∷◌, length, get_or, drop, Some, None, Option, sym, refl, ap, ◌∙◌, arith}
-use Rattle.std.proofs.lemmas.List.{at_drop_more, at_drop_all}
-use Rattle.std.proofs.lemmas.Bool.{cond-true, cond-false}
+use Rattle.std.proofs.Common.{◌≡◌, ℕ, Bool, true, false, cond, List, [], ◌∷◌, get_or, Some, Option, sym, refl, ap, ◌∙◌}
 use Rattle.code.specs.declared.instructions.Opcode.{Opcode}
-use Rattle.code.specs.declared.instructions.Opcode.TheVariants.{Return, Write, Read, Depend, Expect, Release, Enter, FutureWrite, FutureSwitch, FutureRead, FutureRelease, JumpIf, Jump, Call, Copy, Push, Pop, GetParent, SetParent, Adopt, Delete}
+use Rattle.code.specs.declared.instructions.Opcode.TheVariants.{Return}
 use Rattle.image.specs.Marks.{mark_of, opcodes, marked, found}
 
 -- an opcode is found by its mark

@@ -1,16 +1,13 @@
 -- Cells put into a buffer one after another.
-use Rattle.std.proofs.Common.{◌≡◌, ℕ, ◌+◌, ◌*◌, ◌<◌, ◌≤◌, leb, List, [], ◌∷◌, ◌++◌, map, length, get_or, take, drop, Ok, Err, sym, refl, ap, ◌∙◌, arith}
+use Rattle.std.proofs.Common.{◌≡◌, ℕ, ◌+◌, ◌*◌, ◌<◌, ◌≤◌, List, [], ◌∷◌, ◌++◌, map, length, get_or, take, drop, sym, refl, ap, ◌∙◌, arith}
 use lib.Seq.{paste}
-use Rattle.std.proofs.lemmas.List.{append-nil, length-append, length-map, length-take-le, take-append-drop, take_all, take_at, drop_at, drop-drop, flat_map_more, map_more}
-use Rattle.std.proofs.lemmas.Bool.{cond-true, cond-false, le-leb, lt-leb}
+use Rattle.std.proofs.lemmas.List.{length-append, length-map, length-take-le, take_all, take_at, drop_at, drop-drop, flat_map_more, map_more}
 use Rattle.std.specs.List.{flat_map as joined}
-use Rattle.fault.specs.declared.Fault.TheVariants.{ShortBuffer}
 use Rattle.code.specs.declared.instructions.Instruction.{Instruction}
 use Rattle.code.specs.declared.instructions.Instruction.TheVariants.{Return}
 use Rattle.code.specs.declared.instructions.Word.{Word}
 use Rattle.code.specs.Words.{word_of}
 use Rattle.image.specs.Cells.{half, cell}
-use Rattle.image.specs.Images.{head_of, image_length, image_of, written}
 use Rattle.image.proofs.Finding.{mark_two}
 
 -- a cell is six bytes
@@ -31,10 +28,6 @@ put_next bs front c e a b l =
     let after : drop (a + length c) bs ≡ drop (a + length c) e = sym (drop-drop (length c) a bs) ∙ ap (λ s. drop (length c) s) (ap (drop a) b ∙ drop_at front (drop a e) a l) ∙ drop-drop (length c) a e in
     ap (λ s. (s ++ take (length c) c) ++ drop (a + length c) bs) before ∙ ap (λ s. (front ++ s) ++ drop (a + length c) bs) all ∙ ap (λ s. (front ++ c) ++ s) after
 
--- before the first cell
-pub cells_none : (e : List ℕ) → e ≡ (take 4 e ++ []) ++ drop 4 e
-cells_none e = sym (ap (λ s. s ++ drop 4 e) (append-nil (take 4 e)) ∙ take-append-drop 4 e)
-
 -- one cell more
 pub cells_more : (b e c after : List ℕ) (xs : List Instruction) (k : ℕ) → k < length xs → 4 ≤ length e → b ≡ (take 4 e ++ joined cell (map word_of (take k xs))) ++ drop (4 + 6 * k) e → c ≡ cell (word_of (get_or xs k Return)) → after ≡ paste b (4 + 6 * k) c (length c) → after ≡ (take 4 e ++ joined cell (map word_of (take (k + 1) xs))) ++ drop (4 + 6 * (k + 1)) e
 cells_more b e c after xs k h w was is then =
@@ -52,36 +45,3 @@ cells_more b e c after xs k h w was is then =
     ∙ put_next b (take 4 e ++ joined cell (map word_of (take k xs))) c e (4 + 6 * k) was front
     ∙ ap (λ s. s ++ drop (4 + 6 * k + length c) e) longer
     ∙ ap (λ n. (take 4 e ++ joined cell (map word_of (take (k + 1) xs))) ++ drop n e) next
-
--- every cell
-pub cells_all : (b e : List ℕ) (xs : List Instruction) (k : ℕ) → k ≡ length xs → b ≡ (take 4 e ++ joined cell (map word_of (take k xs))) ++ drop (4 + 6 * k) e → b ≡ (take 4 e ++ joined cell (map word_of xs)) ++ drop (4 + 6 * length xs) e
-cells_all b e xs k h was =
-    was
-    ∙ ap (λ s. (take 4 e ++ joined cell (map word_of s)) ++ drop (4 + 6 * k) e) (take_all k xs (omega arith))
-    ∙ ap (λ n. (take 4 e ++ joined cell (map word_of xs)) ++ drop (4 + 6 * n) e) h
-
--- the head, and then every cell
-pub image_put : (a b c : List ℕ) (xs : List Instruction) → b ≡ paste a 0 (head_of (length xs)) 4 → c ≡ (take 4 b ++ joined cell (map word_of xs)) ++ drop (image_length (length xs)) b → c ≡ image_of xs ++ drop (image_length (length xs)) a
-image_put a b c xs e f =
-    let front : take 4 b ≡ head_of (length xs) = ap (take 4) e in
-    let rest : drop (4 + 6 * length xs) b ≡ drop (4 + 6 * length xs) a = sym (drop-drop (6 * length xs) 4 b) ∙ ap (λ s. drop (6 * length xs) (drop 4 s)) e ∙ drop-drop (6 * length xs) 4 a in
-    f
-    ∙ ap (λ s. (s ++ joined cell (map word_of xs)) ++ drop (4 + 6 * length xs) b) front
-    ∙ ap (λ s. image_of xs ++ s) rest
-
--- what the buffer holds in the end
-pub image_left : (a b c hd : List ℕ) (ys xs : List Instruction) (n : ℕ) → n ≡ length xs → hd ≡ head_of n → ys ≡ xs → b ≡ paste a 0 hd (length hd) → c ≡ (take 4 b ++ joined cell (map word_of ys)) ++ drop (image_length (length ys)) b → c ≡ image_of xs ++ drop (image_length (length xs)) a
-image_left a b c hd ys xs n count top same e f =
-    let head : hd ≡ head_of (length xs) = top ∙ ap head_of count in
-    let b_is : b ≡ paste a 0 (head_of (length xs)) 4 = e ∙ ap (λ s. paste a 0 s (length s)) head in
-    image_put a b c xs b_is (f ∙ ap (λ s. (take 4 b ++ joined cell (map word_of s)) ++ drop (image_length (length s)) b) same)
-
--- what writing returns and leaves
-pub written_all : (a c : List ℕ) (xs : List Instruction) (n : ℕ) → image_length (length xs) ≤ length a → n ≡ image_length (length xs) → c ≡ image_of xs ++ drop (image_length (length xs)) a → (Ok n, c) ≡ written xs a
-written_all a c xs n room size e =
-    ap (λ m. (Ok m, c)) size ∙ ap (λ s. (Ok (image_length (length xs)), s)) e ∙ sym (cond-true (leb (image_length (length xs)) (length a)) _ _ (le-leb (image_length (length xs)) (length a) room))
-
--- what it returns where the buffer is too short
-pub written_none : (a : List ℕ) (xs : List Instruction) (n : ℕ) → length a < image_length (length xs) → n ≡ image_length (length xs) → (Err (ShortBuffer n), a) ≡ written xs a
-written_none a xs n short size =
-    ap (λ m. (Err (ShortBuffer m), a)) size ∙ sym (cond-false (leb (image_length (length xs)) (length a)) _ _ (lt-leb (image_length (length xs)) (length a) short))

@@ -3,7 +3,7 @@ use Rattle.std.specs.Prelude.{ℕ, ◌+◌, ◌-◌, ◌*◌, ◌/◌, ◌%◌, 
 use Rattle.std.specs.Option.{option_map_or}
 use Rattle.code.specs.declared.instructions.Opcode.{Opcode}
 use Rattle.code.specs.declared.instructions.Operand.{Operand}
-use Rattle.code.specs.declared.instructions.Operand.TheVariants.{Unused, Line, Task, Mode, Condition, Ticks, End, Address, Register, OtherRegister}
+use Rattle.code.specs.declared.instructions.Operand.TheVariants.{Unused}
 use Rattle.code.specs.declared.instructions.Word.{Word}
 use Rattle.code.specs.Opcodes.{operands_of, is_end}
 use Rattle.code.specs.Words.{made_of}

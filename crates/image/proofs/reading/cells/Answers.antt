@@ -1,4 +1,4 @@
-use Rattle.std.proofs.Common.{◌≡◌, ◌*◌, length, drop, arith, rules}
+use Rattle.std.proofs.Common.{◌≡◌, drop, rules}
 use Rattle.image.proofs.Cutting.{cut}
 use Rattle.image.proofs.reading.cells.Goals as goal
 

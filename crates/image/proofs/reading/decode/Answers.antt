@@ -1,4 +1,4 @@
-use Rattle.std.proofs.Common.{◌≡◌, Some, None, Err, length, map, take, sym, ap, ◌∙◌, inl, inr, below_more, arith, rules}
+use Rattle.std.proofs.Common.{◌≡◌, Some, None, Err, length, map, take, sym, ap, ◌∙◌, below_more, arith, rules}
 use Rattle.std.proofs.lemmas.List.{length-set}
 use Rattle.fault.specs.declared.Fault.TheVariants.{BadCode}
 use Rattle.code.specs.Stores.{held}
