@@ -89,7 +89,7 @@ fn too_many_instructions(rt: HostRuntime) {
     bytes[3] = 0;
     let all: &[u8] = &bytes;
     assert!(rt; all.len() > 24580);
-    assert_eq!(rt; read(&all[..24580]).err(), None);
+    assert_eq!(rt; read(&all[0..24580]).err(), None);
 }
 
 #[test]

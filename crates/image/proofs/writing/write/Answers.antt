@@ -8,10 +8,12 @@ use Rattle.image.proofs.writing.write.Goals as goal
 pub returns-then-buffer-needed-clause-laws : goal.returns-then-buffer-needed-clause-laws
 returns-then-buffer-needed-clause-laws c = (read_back, one_code)
 
-pub returns-clause-back : goal.returns-clause-back
-returns-clause-back c =
-    let left : c.put_cells.new.buffer ≡ image_of (instructions c.args.store.now) ++ drop (image_length (length (instructions c.args.store.now))) c.args.buffer.now = search rules in
-    buffer_back _ (instructions c.args.store.now) c.put_cells.new.buffer (drop (image_length (length (instructions c.args.store.now))) c.args.buffer.now) (store_sound c.args.store.now) (ap image_length c.len-count.ensures.count) left
-
-pub returns-clause-laws : goal.returns-clause-laws
-returns-clause-laws c = (read_back, one_code)
+pub returns : goal.returns
+returns c =
+    record {
+      value = search rules;
+      back =
+        let left : c.put_cells.new.buffer ≡ image_of (instructions c.args.store.now) ++ drop (image_length (length (instructions c.args.store.now))) c.args.buffer.now = search rules in
+        buffer_back _ (instructions c.args.store.now) c.put_cells.new.buffer (drop (image_length (length (instructions c.args.store.now))) c.args.buffer.now) (store_sound c.args.store.now) (ap image_length c.len-count.ensures.count) left;
+      laws = (read_back, one_code);
+    }
