@@ -13,7 +13,7 @@ returns c =
     record {
       value = search rules;
       back =
-        let left : c.put_cells.new.buffer ≡ image_of (instructions c.args.store.now) ++ drop (image_length (length (instructions c.args.store.now))) c.args.buffer.now = search rules in
-        buffer_back _ (instructions c.args.store.now) c.put_cells.new.buffer (drop (image_length (length (instructions c.args.store.now))) c.args.buffer.now) (store_sound c.args.store.now) (ap image_length c.len-count.ensures.count) left;
+          let left : c.put_cells.new.buffer ≡ image_of (instructions c.args.store.now) ++ drop (image_length (length (instructions c.args.store.now))) c.args.buffer.now = search rules in
+          buffer_back _ (instructions c.args.store.now) c.put_cells.new.buffer (drop (image_length (length (instructions c.args.store.now))) c.args.buffer.now) (store_sound c.args.store.now) (ap image_length c.len-count.ensures.count) left;
       laws = (read_back, one_code);
     }
