@@ -18,7 +18,7 @@ use Rattle.code.proofs.Firsts.{none_passes, first_passes}
 use Rattle.std.proofs.lemmas.Bool.Decides.{nat_tests}
 use Rattle.image.specs.Cells.{ended, word_of_cell}
 use Rattle.image.specs.Images.{decoded}
-use Rattle.image.proofs.Cutting.{word_here}
+use Rattle.image.proofs.Cutting.{as_many, word_here}
 
 -- what a word gives: the instruction, and that it is legal
 pub decoded_some : (b : Bool) (i j : Instruction) → Some i ≡ cond b (Some j) None → (b ≡ true) × (i ≡ j)
@@ -29,15 +29,10 @@ pub decoded_none : (b : Bool) (j : Instruction) → None ≡ cond b (Some j) Non
 decoded_none true j e = absurd cc
 decoded_none false j e = refl
 
--- as many words as cells
-pub as_many : (cs : List (List ℕ)) (ws : List Word) → map word_of_cell cs ≡ map Some ws → length cs ≡ length ws
-as_many cs ws e = sym (length-map cs word_of_cell) ∙ ap length e ∙ length-map ws Some
-
 -- the last cell ends as the last word does
 ended_as : (cs : List (List ℕ)) (ws : List Word) → map word_of_cell cs ≡ map Some ws → ended cs ≡ (ltb 0 (length ws) && is_end (get_or ws (length ws - 1) (word_of Return)).opcode)
 ended_as cs ws e =
     let many : length cs ≡ length ws = as_many cs ws e in
-    let ends : Bool = is_end (get_or ws (length ws - 1) (word_of Return)).opcode in
     elim (cases_lt 0 (length ws)) [
       | inl h ↦
           let inside : length cs - 1 < length cs = omega arith in

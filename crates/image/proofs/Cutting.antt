@@ -36,8 +36,12 @@ all_known k [] e = refl
 all_known k (None ∷ os) e = absurd cc
 all_known k (Some w ∷ os) e = ap (λ ps. Some w ∷ ps) (all_known (k + 1) os e)
 
+-- as many words as cells
+pub as_many : (cs : List (List ℕ)) (ws : List Word) → map word_of_cell cs ≡ map Some ws → length cs ≡ length ws
+as_many cs ws e = sym (length-map cs word_of_cell) ∙ ap length e ∙ length-map ws Some
+
 -- the word of a cell
 pub word_here : (cs : List (List ℕ)) (ws : List Word) (k : ℕ) → map word_of_cell cs ≡ map Some ws → k < length cs → word_of_cell (get_or cs k []) ≡ Some (get_or ws k (word_of Return))
 word_here cs ws k e h =
-    let many : length cs ≡ length ws = sym (length-map cs word_of_cell) ∙ ap length e ∙ length-map ws Some in
+    let many : length cs ≡ length ws = as_many cs ws e in
     sym (get_or-map word_of_cell cs k [] None h) ∙ ap (λ os. get_or os k None) e ∙ get_or-map Some ws k (word_of Return) None (omega arith)
