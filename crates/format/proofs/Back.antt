@@ -1,120 +1,72 @@
 -- What is read is what would be written.
-use Rattle.std.proofs.Common.{◌≡◌, ℕ, suc, ◌<◌, ◌≤◌, Bool, true, cond, ltb, List, length, get_or, take, Ok, Err, Result, sym, refl, ap, ◌∙◌, subst, inl, inr, arith}
-use Rattle.std.proofs.lemmas.Bool.{cases_Bool}
-use Rattle.std.proofs.lemmas.Bool.Decides.{leb_tells, nat_tests}
-use Rattle.tables.specs.Kinds.{kind_of}
+use Rattle.std.proofs.Common.{◌≡◌, ℕ, suc, ◌+◌, ◌*◌, ◌^◌, ◌<◌, ◌≤◌, Bool, true, false, cond, ltb, List, [], ◌∷◌, ◌++◌, map, length, get_or, take, drop, Some, None, Err, Ok, Option, Result, refl, inl, inr, arith, w32, SFits, to_z}
+use mir.ValLaws.{to_z-Fits}
+use Rattle.std.proofs.lemmas.Int.{of_z-to_z}
+use Rattle.std.specs.List.{find, range_with_len}
+use Rattle.std.specs.Option.{ok_or}
+use Rattle.std.proofs.lemmas.Bool.Decides.{nat_tests, leb_tells, Decides-eqb}
+use Rattle.std.proofs.lemmas.List.{get_or-take, length-take}
+use Rattle.std.proofs.lemmas.List.FromFn.{fill_by_all}
+use Rattle.std.proofs.lemmas.Slice.Eq.{starts_is}
 use Rattle.tables.specs.declared.records.Kind.{Kind}
 use Rattle.tables.specs.declared.records.Kind.TheVariants.{Communicators, Modules, Modes, Tasks, Reads, Writes, Dependencies, Switches}
-use Rattle.format.specs.Fields.{number_or_none, use_of, form_of}
-use Rattle.format.specs.Records.{mark, size, marked, kind_read, fields_read, whole_read, record_read, record_bytes}
+use Rattle.format.specs.Numbers.{word_bytes}
 use Rattle.format.specs.Promises.{WrittenAgain}
+use Rattle.format.specs.Records.{mark, size, marked, kinds, kind_read, fields_read, whole_read, record_read}
 use Rattle.format.specs.declared.Flaw.{Flaw}
 use Rattle.format.specs.declared.Flaw.TheVariants.{UnknownMark, Cut}
-use Rattle.format.specs.Sound.{FitsWidths, PlainFields}
-use Rattle.format.proofs.Digits.{firsts, take_firsts, half_again, word_again, word_fits, none_again, use_again, form_again}
 
 -- each item is a byte
 abbrev pub Bytes : List ℕ → Type 0
 Bytes bs = (i : ℕ) → get_or bs i 0 < 256
 
+-- the first items, one by one
+take_firsts : (n : ℕ) (bs : List ℕ) → n ≤ length bs → take n bs ≡ map (λ k. get_or bs k 0) (range_with_len 0 n)
+take_firsts n bs h = fill_by_all (λ k. get_or bs k 0) (take n bs) n 0 (omega (arith, length-take n bs)) (λ k s. get_or-take n bs k 0 s)
+
 -- the two letters of a mark
-pub letters : (bs : List ℕ) (k : Kind) → marked bs k ≡ true → (get_or bs 0 0 ≡ get_or (mark k) 0 0) × (get_or bs 1 0 ≡ get_or (mark k) 1 0)
-letters bs k m = grind (arith, nat_tests)
+letters : (bs : List ℕ) (k : Kind) → marked bs k ≡ true → bs ≡ mark k ++ drop (length (mark k)) bs
+letters bs k m = (starts_is Decides-eqb bs (mark k) _ refl).0 m
 
-pub bytes_firsts : (bs : List ℕ) (k : Kind) → Bytes bs → marked bs k ≡ true → record_bytes (fields_read k bs) ≡ firsts (size k) 0 bs
-bytes_firsts bs Communicators b m =
-    let l = letters bs Communicators m in
-    let p = half_again (get_or bs 2 0) (get_or bs 3 0) (b 2) (b 3) in
-    let u = use_again (get_or bs 4 0) in
-    let w = word_again (get_or bs 5 0) (get_or bs 6 0) (get_or bs 7 0) (get_or bs 8 0) (b 5) (b 6) (b 7) (b 8) in
-    cc
-bytes_firsts bs Modules b m = let l = letters bs Modules m in let o = none_again (get_or bs 2 0) in cc
-bytes_firsts bs Modes b m = let l = letters bs Modes m in let p = half_again (get_or bs 3 0) (get_or bs 4 0) (b 3) (b 4) in cc
-bytes_firsts bs Tasks b m = let l = letters bs Tasks m in let o = none_again (get_or bs 5 0) in let f = form_again (get_or bs 6 0) in cc
-bytes_firsts bs Reads b m = let l = letters bs Reads m in let p = half_again (get_or bs 5 0) (get_or bs 6 0) (b 5) (b 6) in cc
-bytes_firsts bs Writes b m = let l = letters bs Writes m in let p = half_again (get_or bs 5 0) (get_or bs 6 0) (b 5) (b 6) in cc
-bytes_firsts bs Dependencies b m = let l = letters bs Dependencies m in cc
-bytes_firsts bs Switches b m = let l = letters bs Switches m in cc
+-- what was found passes
+find_passes : {X : Type 0} (p : X → Bool) (xs : List X) (x : X) → find p xs ≡ Some x → p x ≡ true
+find_passes p [] x e = cc
+find_passes p (y ∷ ys) x e = grind (arith, find_passes p ys x)
 
--- the bytes of the record that was read
-pub bytes_again :
-    (bs : List ℕ) (k : Kind) → Bytes bs → marked bs k ≡ true → size k ≤ length bs → record_bytes (fields_read k bs) ≡ take (size k) bs
-bytes_again bs k b m h = bytes_firsts bs k b m ∙ sym (take_firsts (size k) 0 bs (omega arith))
+-- a number of four bytes has those bytes again, and fits
+word_again :
+    (a b c d : ℕ) → a < 256 → b < 256 → c < 256 → d < 256
+    → (word_bytes (to_z w32 (a * 16777216 + b * 65536 + c * 256 + d)) ≡ a ∷ b ∷ c ∷ d ∷ [])
+    × SFits w32 (to_z w32 (a * 16777216 + b * 65536 + c * 256 + d))
+word_again a b c d h i j k =
+    let n : ℕ = a * 16777216 + b * 65536 + c * 256 + d in
+    let below : n < 2 ^ 32 = omega arith in
+    (grind (arith, of_z-to_z), to_z-Fits w32 n (record { fits = below }))
 
--- its numbers fit
-pub fits_again : (bs : List ℕ) (k : Kind) → Bytes bs → FitsWidths (fields_read k bs)
-fits_again bs Communicators b =
-    (omega (arith, b 2, b 3), word_fits (get_or bs 5 0) (get_or bs 6 0) (get_or bs 7 0) (get_or bs 8 0) (b 5) (b 6) (b 7) (b 8))
-fits_again bs Modules b = tt
-fits_again bs Modes b = omega (arith, b 3, b 4)
-fits_again bs Tasks b = tt
-fits_again bs Reads b = omega (arith, b 5, b 6)
-fits_again bs Writes b = omega (arith, b 5, b 6)
-fits_again bs Dependencies b = tt
-fits_again bs Switches b = tt
+-- the record that was read of a kind
+fields_again : (bs : List ℕ) (k : Kind) → Bytes bs → marked bs k ≡ true → size k ≤ length bs → WrittenAgain bs (Ok (fields_read k bs))
+fields_again bs Communicators b m h = grind (arith, nat_tests, letters, take_firsts, word_again)
+fields_again bs Modules b m h = grind (arith, nat_tests, letters, take_firsts)
+fields_again bs Modes b m h = grind (arith, letters, take_firsts)
+fields_again bs Tasks b m h = grind (arith, nat_tests, letters, take_firsts)
+fields_again bs Reads b m h = grind (arith, letters, take_firsts)
+fields_again bs Writes b m h = grind (arith, letters, take_firsts)
+fields_again bs Dependencies b m h = grind (arith, letters, take_firsts)
+fields_again bs Switches b m h = grind (arith, letters, take_firsts)
 
--- its other fields are what their bytes stand for
-pub plain_again : (bs : List ℕ) (k : Kind) → PlainFields (fields_read k bs)
-plain_again bs Communicators = ap use_of (use_again (get_or bs 4 0))
-plain_again bs Modules = ap number_or_none (none_again (get_or bs 2 0))
-plain_again bs Modes = tt
-plain_again bs Tasks = (ap number_or_none (none_again (get_or bs 5 0)), ap form_of (form_again (get_or bs 6 0)))
-plain_again bs Reads = tt
-plain_again bs Writes = tt
-plain_again bs Dependencies = tt
-plain_again bs Switches = tt
-
--- a record of a kind has that kind
-pub kind_again : (bs : List ℕ) (k : Kind) → kind_of (fields_read k bs) ≡ k
-kind_again bs Communicators = refl
-kind_again bs Modules = refl
-kind_again bs Modes = refl
-kind_again bs Tasks = refl
-kind_again bs Reads = refl
-kind_again bs Writes = refl
-kind_again bs Dependencies = refl
-kind_again bs Switches = refl
-
--- one test of a chain of marks: it is this kind, or one further on
-abbrev Found : List ℕ → Kind → Result Kind Flaw → Type 0
-Found bs k rest = rest ≡ Ok k → marked bs k ≡ true
-
-found_here : (bs : List ℕ) (k j : Kind) (rest : Result Kind Flaw) → Found bs k rest → Found bs k (cond (marked bs j) (Ok j) rest)
-found_here bs k j rest more e =
-    elim (cases_Bool (marked bs j)) [
-      | inl t ↦ let same : k ≡ j = cc in ap (marked bs) same ∙ t
-      | inr f ↦ more (cc)
-    ]
-
--- a kind is read where its mark stands
-pub kind_marked : (bs : List ℕ) (k : Kind) → kind_read bs ≡ Ok k → marked bs k ≡ true
-kind_marked bs k e =
-    let none : Found bs k (Err UnknownMark) = λ e. let z : ◌≡◌ {A = ℕ} 0 1 = cc in absurd (omega arith) in
-    let chain =
-    found_here bs k Communicators _
-    (found_here bs k Modules _
-    (found_here bs k Modes _
-    (found_here bs k Tasks _
-    (found_here bs k Reads _
-    (found_here bs k Writes _
-    (found_here bs k Dependencies _
-    (found_here bs k Switches _ none))))))) in
-    elim (cases_Bool (ltb (length bs) 2)) [
-      | inl t ↦ let z : ◌≡◌ {A = ℕ} 0 1 = cc in absurd (omega arith)
-      | inr f ↦ chain (cc)
-    ]
+-- a kind was read only where a mark was found
+was_found : (short : Bool) (o : Option Kind) (k : Kind) → cond short (Err Cut) (ok_or o UnknownMark) ≡ Ok k → o ≡ Some k
+was_found true o k e = cc
+was_found false None k e = cc
+was_found false (Some j) k e = cc
 
 -- the same by what kind was read
 whole_again : (bs : List ℕ) (kr : Result Kind Flaw) → Bytes bs → kind_read bs ≡ kr → WrittenAgain bs (whole_read kr bs)
 whole_again bs (Err flaw) b e = tt
 whole_again bs (Ok k) b e =
-    let Goal : Bool → Type 0 = λ v. WrittenAgain bs (cond v (Err Cut) (Ok (fields_read k bs))) in
     elim (leb_tells (suc (length bs)) (size k)) [
-      | inl h ↦ subst Goal (sym h.0) tt
-      | inr h ↦
-          let exact : record_bytes (fields_read k bs) ≡ take (size (kind_of (fields_read k bs))) bs =
-          bytes_again bs k b (kind_marked bs k e) (omega (arith, h.1)) ∙ ap (λ j. take (size j) bs) (sym (kind_again bs k)) in
-          subst Goal (sym h.0) (exact, fits_again bs k b, plain_again bs k)
+      | inl h ↦ rw h.0 tt
+      | inr h ↦ rw h.0 (fields_again bs k b (find_passes (marked bs) kinds k (was_found (ltb (length bs) 2) (find (marked bs) kinds) k e)) (omega (arith, h.1)))
     ]
 
 -- what was read is what would be written

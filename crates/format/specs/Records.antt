@@ -1,6 +1,7 @@
 -- The bytes of a record: two letters, then its fields in order.
-use Rattle.std.specs.Prelude.{ℕ, Bool, cond, ◌&&◌, List, [], ◌∷◌, ◌++◌, length, Ok, Err, codes, Result, ◌==◌, nat_lt, slice_index}
-use Rattle.std.specs.List.{flat_map}
+use Rattle.std.specs.Prelude.{ℕ, Bool, cond, List, [], ◌∷◌, ◌++◌, length, Ok, Err, codes, Result, nat_eq, nat_lt}
+use Rattle.std.specs.Option.{ok_or}
+use Rattle.std.specs.List.{find, flat_map, starts_with}
 use Rattle.tables.specs.Stations.{Station, rows}
 use Rattle.tables.specs.declared.records.Kind.{Kind}
 use Rattle.tables.specs.declared.records.Kind.TheVariants.{Communicators, Modules, Modes, Tasks, Reads, Writes, Dependencies, Switches}
@@ -46,21 +47,15 @@ record_bytes (Switch s) = codes "SW" ++ s.mode ∷ s.condition ∷ s.target ∷ 
 
 -- The bytes begin with the mark of a kind.
 abbrev pub marked : List ℕ → Kind → Bool
-marked bs k = byte_at bs 0 == slice_index (mark k) 0 && byte_at bs 1 == slice_index (mark k) 1
+marked bs k = starts_with nat_eq bs (mark k)
+
+-- Every kind, in order.
+abbrev pub kinds : List Kind
+kinds = Communicators ∷ Modules ∷ Modes ∷ Tasks ∷ Reads ∷ Writes ∷ Dependencies ∷ Switches ∷ []
 
 -- The kind whose mark the bytes begin with.
 abbrev pub kind_read : List ℕ → Result Kind Flaw
-kind_read bs =
-    cond (nat_lt (length bs) 2) (Err Cut)
-    (cond (marked bs Communicators) (Ok Communicators)
-    (cond (marked bs Modules) (Ok Modules)
-    (cond (marked bs Modes) (Ok Modes)
-    (cond (marked bs Tasks) (Ok Tasks)
-    (cond (marked bs Reads) (Ok Reads)
-    (cond (marked bs Writes) (Ok Writes)
-    (cond (marked bs Dependencies) (Ok Dependencies)
-    (cond (marked bs Switches) (Ok Switches)
-    (Err UnknownMark)))))))))
+kind_read bs = cond (nat_lt (length bs) 2) (Err Cut) (ok_or (find (marked bs) kinds) UnknownMark)
 
 -- A record of a kind, by the bytes that its mark begins.
 abbrev pub fields_read : Kind → List ℕ → Record

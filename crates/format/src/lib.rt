@@ -8,7 +8,7 @@ pub use read::{decode, form_of, number, use_of};
 pub use write::{append, mark, size};
 
 // Why bytes do not begin with a record.
-#[derive(Clone, Copy)]
+#[derive(Clone, Copy, PartialEq, Eq, Debug)]
 pub enum Flaw {
     UnknownMark,
     Cut,

@@ -1,36 +1,33 @@
 // From bytes to a record.
-ghost use Rattle.std.specs.Prelude.{◌≡◌, ◌+◌, ◌≤◌, length};
+ghost use Rattle.std.specs.Prelude.{◌≡◌, Ok};
 ghost use Rattle.format.specs.Fields.{number_or_none, use_of, form_of};
 ghost use Rattle.format.specs.Promises.{WrittenAgain};
-ghost use Rattle.format.specs.Numbers.{half_at, word_at};
-ghost use Rattle.format.specs.Records.{size, marked, kind_read, fields_read, record_read};
+ghost use Rattle.format.specs.Records.{kinds, marked, whole_read, record_read};
+ghost use Rattle.std.specs.List.{find};
 
 use crate::Flaw;
-use crate::write::{mark, size};
+use crate::write::mark;
 use tables::*;
 
-fn half(bytes: &[u8], at: usize) -> u16
-    requires { at + 2 ≤ length bytes.now }
-    ensures { result ≡ half_at bytes.now at }
-{
-    u16::from_be_bytes([bytes[at], bytes[at + 1]])
-}
-
-fn word(bytes: &[u8], at: usize) -> i32
-    requires { at + 4 ≤ length bytes.now }
-    ensures { result ≡ word_at bytes.now at }
-{
-    i32::from_be_bytes([bytes[at], bytes[at + 1], bytes[at + 2], bytes[at + 3]])
-}
+const KINDS: [Kind; 8] = [
+    Kind::Communicators,
+    Kind::Modules,
+    Kind::Modes,
+    Kind::Tasks,
+    Kind::Reads,
+    Kind::Writes,
+    Kind::Dependencies,
+    Kind::Switches,
+];
 
 // The owner or parent that a byte stands for; 255 is none.
 pub fn number(byte: u8) -> Option<u8>
     ensures { result ≡ number_or_none byte }
 {
-    if byte == 255 { None } else { Some(byte) }
+    (byte != 255).then_some(byte)
 }
 
-// What a communicator is for, by its byte.
+// What a communicator is for, by its byte; a From may stand only in the crate of the type.
 pub fn use_of(byte: u8) -> Use
     ensures { result ≡ use_of byte }
 {
@@ -42,7 +39,7 @@ pub fn use_of(byte: u8) -> Use
     }
 }
 
-// A task's form, by its byte.
+// A task's form, by its byte; a From may stand only in the crate of the type.
 pub fn form_of(byte: u8) -> Form
     ensures { result ≡ form_of byte }
 {
@@ -53,100 +50,70 @@ pub fn form_of(byte: u8) -> Form
     }
 }
 
-// Whether bytes begin with the mark of a kind.
-fn is_marked(bytes: &[u8], kind: Kind) -> bool
-    requires { 2 ≤ length bytes.now }
-    ensures { result ≡ marked bytes.now kind }
+// The kind whose mark the bytes begin with.
+fn kind_of(bytes: &[u8]) -> Option<Kind>
+    ensures { result ≡ find (marked bytes.now) kinds }
 {
-    let letters = mark(kind);
-    bytes[0] == letters[0] && bytes[1] == letters[1]
+    KINDS
+        .iter()
+        .copied()
+        .find(|kind| bytes.starts_with(&mark(*kind)))
 }
 
-fn kind_of(bytes: &[u8]) -> Result<Kind, Flaw>
-    ensures { result ≡ kind_read bytes.now }
+// A record of a kind, by the bytes that its mark begins.
+fn fields(kind: Kind, bytes: &[u8]) -> Result<Record, Flaw>
+    ensures { result ≡ whole_read (Ok kind) bytes.now }
 {
-    if bytes.len() < 2 {
-        Err(Flaw::Cut)
-    } else if is_marked(bytes, Kind::Communicators) {
-        Ok(Kind::Communicators)
-    } else if is_marked(bytes, Kind::Modules) {
-        Ok(Kind::Modules)
-    } else if is_marked(bytes, Kind::Modes) {
-        Ok(Kind::Modes)
-    } else if is_marked(bytes, Kind::Tasks) {
-        Ok(Kind::Tasks)
-    } else if is_marked(bytes, Kind::Reads) {
-        Ok(Kind::Reads)
-    } else if is_marked(bytes, Kind::Writes) {
-        Ok(Kind::Writes)
-    } else if is_marked(bytes, Kind::Dependencies) {
-        Ok(Kind::Dependencies)
-    } else if is_marked(bytes, Kind::Switches) {
-        Ok(Kind::Switches)
-    } else {
-        Err(Flaw::UnknownMark)
-    }
-}
-
-fn fields(kind: Kind, bytes: &[u8]) -> Record
-    requires { size kind ≤ length bytes.now }
-    ensures { result ≡ fields_read kind bytes.now }
-{
-    match kind {
-        Kind::Communicators => Record::Communicator(Communicator {
-            period: half(bytes, 2),
-            kind: use_of(bytes[4]),
-            initial: word(bytes, 5),
+    Ok(match (kind, bytes) {
+        (Kind::Communicators, &[_, _, p0, p1, kind, i0, i1, i2, i3, ..]) => {
+            Record::Communicator(Communicator {
+                period: u16::from_be_bytes([p0, p1]),
+                kind: use_of(kind),
+                initial: i32::from_be_bytes([i0, i1, i2, i3]),
+            })
+        }
+        (Kind::Modules, &[_, _, owner, start, ..]) => Record::Module(Module {
+            owner: number(owner),
+            start,
         }),
-        Kind::Modules => Record::Module(Module {
-            owner: number(bytes[2]),
-            start: bytes[3],
+        (Kind::Modes, &[_, _, home, p0, p1, ..]) => Record::Mode(Mode {
+            home,
+            period: u16::from_be_bytes([p0, p1]),
         }),
-        Kind::Modes => Record::Mode(Mode {
-            home: bytes[2],
-            period: half(bytes, 3),
+        (Kind::Tasks, &[_, _, mode, inputs, outputs, parent, form, ..]) => Record::Task(Task {
+            mode,
+            inputs,
+            outputs,
+            parent: number(parent),
+            form: form_of(form),
         }),
-        Kind::Tasks => Record::Task(Task {
-            mode: bytes[2],
-            inputs: bytes[3],
-            outputs: bytes[4],
-            parent: number(bytes[5]),
-            form: form_of(bytes[6]),
+        (Kind::Reads, &[_, _, task, input, communicator, o0, o1, ..]) => Record::Read(Read {
+            task,
+            input,
+            communicator,
+            offset: u16::from_be_bytes([o0, o1]),
         }),
-        Kind::Reads => Record::Read(Read {
-            task: bytes[2],
-            input: bytes[3],
-            communicator: bytes[4],
-            offset: half(bytes, 5),
+        (Kind::Writes, &[_, _, task, output, communicator, o0, o1, ..]) => Record::Write(Write {
+            task,
+            output,
+            communicator,
+            offset: u16::from_be_bytes([o0, o1]),
         }),
-        Kind::Writes => Record::Write(Write {
-            task: bytes[2],
-            output: bytes[3],
-            communicator: bytes[4],
-            offset: half(bytes, 5),
+        (Kind::Dependencies, &[_, _, task, output, to, input, ..]) => {
+            Record::Dependency(Dependency {
+                task,
+                output,
+                to,
+                input,
+            })
+        }
+        (Kind::Switches, &[_, _, mode, condition, target, ..]) => Record::Switch(Switch {
+            mode,
+            condition,
+            target,
         }),
-        Kind::Dependencies => Record::Dependency(Dependency {
-            task: bytes[2],
-            output: bytes[3],
-            to: bytes[4],
-            input: bytes[5],
-        }),
-        Kind::Switches => Record::Switch(Switch {
-            mode: bytes[2],
-            condition: bytes[3],
-            target: bytes[4],
-        }),
-    }
-}
-
-fn record_of(bytes: &[u8]) -> Result<Record, Flaw>
-    ensures { result ≡ record_read bytes.now }
-{
-    let kind = kind_of(bytes)?;
-    if bytes.len() < size(kind) {
-        return Err(Flaw::Cut);
-    }
-    Ok(fields(kind, bytes))
+        _ => return Err(Flaw::Cut),
+    })
 }
 
 // The record that the bytes begin with, whatever follows it.
@@ -154,5 +121,8 @@ pub fn decode(bytes: &[u8]) -> Result<Record, Flaw>
     ensures value { result ≡ record_read bytes.now }
     ensures again { WrittenAgain bytes.now result }
 {
-    record_of(bytes)
+    if bytes.len() < 2 {
+        return Err(Flaw::Cut);
+    }
+    fields(kind_of(bytes).ok_or(Flaw::UnknownMark)?, bytes)
 }

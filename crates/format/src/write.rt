@@ -76,51 +76,36 @@ pub fn append<const N: usize>(out: &mut Bounded<u8, N>, record: Record) -> Resul
     ensures fits { FitsWidths «record» }
     ensures again { ReadAgain «record» }
 {
+    let [m0, m1] = mark(record.kind());
     match record {
         Record::Communicator(c) => {
-            let [c0, c1] = mark(Kind::Communicators);
             let [p0, p1] = c.period.to_be_bytes();
             let [i0, i1, i2, i3] = c.initial.to_be_bytes();
-            out.extend_from_slice(&[c0, c1, p0, p1, use_byte(c.kind), i0, i1, i2, i3])
+            out.extend_from_slice(&[m0, m1, p0, p1, use_byte(c.kind), i0, i1, i2, i3])
         }
-        Record::Module(m) => {
-            let [c0, c1] = mark(Kind::Modules);
-            out.extend_from_slice(&[c0, c1, number_byte(m.owner), m.start])
-        }
+        Record::Module(m) => out.extend_from_slice(&[m0, m1, number_byte(m.owner), m.start]),
         Record::Mode(m) => {
-            let [c0, c1] = mark(Kind::Modes);
             let [p0, p1] = m.period.to_be_bytes();
-            out.extend_from_slice(&[c0, c1, m.home, p0, p1])
+            out.extend_from_slice(&[m0, m1, m.home, p0, p1])
         }
-        Record::Task(t) => {
-            let [c0, c1] = mark(Kind::Tasks);
-            out.extend_from_slice(&[
-                c0,
-                c1,
-                t.mode,
-                t.inputs,
-                t.outputs,
-                number_byte(t.parent),
-                form_byte(t.form),
-            ])
-        }
+        Record::Task(t) => out.extend_from_slice(&[
+            m0,
+            m1,
+            t.mode,
+            t.inputs,
+            t.outputs,
+            number_byte(t.parent),
+            form_byte(t.form),
+        ]),
         Record::Read(r) => {
-            let [c0, c1] = mark(Kind::Reads);
             let [o0, o1] = r.offset.to_be_bytes();
-            out.extend_from_slice(&[c0, c1, r.task, r.input, r.communicator, o0, o1])
+            out.extend_from_slice(&[m0, m1, r.task, r.input, r.communicator, o0, o1])
         }
         Record::Write(w) => {
-            let [c0, c1] = mark(Kind::Writes);
             let [o0, o1] = w.offset.to_be_bytes();
-            out.extend_from_slice(&[c0, c1, w.task, w.output, w.communicator, o0, o1])
+            out.extend_from_slice(&[m0, m1, w.task, w.output, w.communicator, o0, o1])
         }
-        Record::Dependency(d) => {
-            let [c0, c1] = mark(Kind::Dependencies);
-            out.extend_from_slice(&[c0, c1, d.task, d.output, d.to, d.input])
-        }
-        Record::Switch(s) => {
-            let [c0, c1] = mark(Kind::Switches);
-            out.extend_from_slice(&[c0, c1, s.mode, s.condition, s.target])
-        }
+        Record::Dependency(d) => out.extend_from_slice(&[m0, m1, d.task, d.output, d.to, d.input]),
+        Record::Switch(s) => out.extend_from_slice(&[m0, m1, s.mode, s.condition, s.target]),
     }
 }

@@ -1,13 +1,11 @@
-use Rattle.std.proofs.Common.{ℕ, ◌<◌, get_or, sym, subst, arith, w8, Fits, rules}
+use Rattle.std.proofs.Common.{◌≡◌, ℕ, ◌<◌, get_or, subst, arith, rules}
 use Rattle.format.proofs.Back.{written_again}
 use Rattle.format.specs.Promises.{WrittenAgain}
+use Rattle.format.specs.Records.{record_read}
 use Rattle.format.proofs.read.decode.Goals as goal
 
-pub returns : goal.returns
-returns c =
-    let fits : (i : ℕ) → Fits w8 (get_or c.args.bytes.now i 0) = search rules in
-    let small : (i : ℕ) → get_or c.args.bytes.now i 0 < 256 = λ i. omega (arith, (fits i).fits) in
-    record {
-      value = c.record_of.ensures;
-      again = subst (WrittenAgain c.args.bytes.now) (sym c.record_of.ensures) (written_again c.args.bytes.now small);
-    }
+pub returns-clause-again : goal.returns-clause-again
+returns-clause-again c =
+    let small : (i : ℕ) → get_or c.args.bytes.now i 0 < 256 = λ i. omega (arith, (c.type_inv.bytes i).fits) in
+    let value : record_read c.args.bytes.now ≡ c.fields.result = search rules in
+    subst (WrittenAgain c.args.bytes.now) value (written_again c.args.bytes.now small)
