@@ -38,16 +38,11 @@ impl<'a> Cursor<'a> {
         ensures whole { IfOk result (λ x. size (kind_of x) ≤ length self.now.rest.now) }
     {
         let number = self.number;
-        match decode(self.rest) {
-            Err(flaw) => Err(refusal(number, flaw)),
-            Ok(record) => {
-                if record.kind().rank() < self.last.rank() {
-                    Err(Fault::OutOfOrder { record: number })
-                } else {
-                    Ok(record)
-                }
-            }
+        let record = decode(self.rest).map_err(|flaw| refusal(number, flaw))?;
+        if record.kind().rank() < self.last.rank() {
+            return Err(Fault::OutOfOrder { record: number });
         }
+        Ok(record)
     }
 
     // Hands the next record out and goes past it; at the end, and where it is refused, the cursor stays.

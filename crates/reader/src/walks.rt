@@ -7,8 +7,10 @@ use crate::Cursor;
 use fault::Fault;
 use tables::Tables;
 
-fn filled(bytes: &[u8]) -> Result<Tables, Fault>
-    ensures { outcome result ≡ records bytes.now }
+// The tables that the bytes say, or the first refusal and nothing else.
+pub fn walk(bytes: &[u8]) -> Result<Tables, Fault>
+    ensures value { outcome result ≡ records bytes.now }
+    ensures again { WrittenAgain bytes.now (outcome result) }
 {
     let mut tables = Tables::new();
     let mut cursor = Cursor::new(bytes);
@@ -16,12 +18,4 @@ fn filled(bytes: &[u8]) -> Result<Tables, Fault>
         tables.add(next.number, next.record)?;
     }
     Ok(tables)
-}
-
-// The tables that the bytes say, or the first refusal and nothing else.
-pub fn walk(bytes: &[u8]) -> Result<Tables, Fault>
-    ensures value { outcome result ≡ records bytes.now }
-    ensures again { WrittenAgain bytes.now (outcome result) }
-{
-    filled(bytes)
 }

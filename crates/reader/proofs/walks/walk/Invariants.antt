@@ -2,7 +2,7 @@ use Rattle.std.proofs.Common.{◌≡◌, ◌+◌, ◌-◌, ◌≤◌, length}
 use Rattle.reader.specs.Steps.{standing}
 use Rattle.reader.specs.Walks.{records, walked}
 use Rattle.tables.specs.Stations.{station}
-use Rattle.reader.proofs.walks.filled.Given as goal
+use Rattle.reader.proofs.walks.walk.Given as goal
 
 -- what is left to walk completes the station, and there are fewer records than bytes passed
 abbrev pub invariant-loop-next : goal.invariant-loop-next
