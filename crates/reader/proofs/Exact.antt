@@ -1,5 +1,5 @@
 -- Bytes that are read are the bytes that would be written.
-use Rattle.std.proofs.Common.{◌≡◌, ℕ, zero, suc, ◌+◌, ◌<◌, ◌≤◌, cond, List, [], ◌++◌, length, drop, Ok, Err, Result, sym, refl, ap, ◌∙◌, subst, inl, inr, add-one, arith}
+use Rattle.std.proofs.Common.{◌≡◌, ℕ, zero, suc, ◌+◌, ◌<◌, ◌≤◌, cond, List, [], ◌++◌, length, drop, Ok, Err, Result, sym, refl, ap, ◌∙◌, subst, inl, inr, arith}
 use Rattle.fault.specs.declared.Fault.{Fault}
 use Rattle.fault.specs.declared.Fault.TheVariants.{TooMany}
 use Rattle.format.proofs.Back.{Bytes, written_again}
@@ -29,23 +29,20 @@ Stored rest at s s' nr = (r : Record) × (nr ≡ Ok r) × (rest (past at r) (wit
 stored :
     (rest : Standing → Station → Result Station Fault) (at : Standing) (s s' : Station) (nr : Result Record Fault)
     → onward rest at s nr ≡ Ok s' → Stored rest at s s' nr
-stored rest at s s' (Err f) e = let z : ◌≡◌ {A = ℕ} 0 1 = cc in absurd (omega arith)
+stored rest at s s' (Err f) e = absurd (cc)
 stored rest at s s' (Ok r) e =
     elim (cases_Bool (has_room s r)) [
       | inl t ↦ (r, refl, sym (ap (λ b. cond b (rest (past at r) (with_record s r)) (Err (TooMany at.number))) t) ∙ e)
-      | inr t ↦ let z : ◌≡◌ {A = ℕ} 0 1 = cc in absurd (omega arith)
+      | inr t ↦ absurd (cc)
     ]
 
 -- a record in order, and what it was read from
 in_order : (at : Standing) (rr : Result Record Flaw) (r : Record) → ordered at rr ≡ Ok r → (rr ≡ Ok r) × (rank at.last ≤ rank (kind_of r))
-in_order at (Err f) r e = let z : ◌≡◌ {A = ℕ} 0 1 = cc in absurd (omega arith)
+in_order at (Err f) r e = (cc, absurd (cc))
 in_order at (Ok x) r e =
     elim (leb_tells (suc (rank (kind_of x))) (rank at.last)) [
-      | inl h ↦ let t = h.0 in let z : ◌≡◌ {A = ℕ} 0 1 = cc in absurd (omega arith)
-      | inr h ↦
-          let t = h.0 in
-          let same : x ≡ r = cc in
-          (ap Ok same, subst (λ y. rank at.last ≤ rank (kind_of y)) same (omega (arith, h.1)))
+      | inl h ↦ let t = h.0 in absurd (cc)
+      | inr h ↦ let t = h.0 in let same : x ≡ r = cc in (cc, omega (arith, h.1, ap (λ y. rank (kind_of y)) same))
     ]
 
 bytes_drop : (n : ℕ) (bs : List ℕ) → Bytes bs → Bytes (drop n bs)
@@ -73,9 +70,9 @@ pub walk_exact :
 walk_exact zero at s s' e h b none plain = over_exact zero at s s' e (omega arith) plain
 walk_exact (suc k) at s s' e h b none plain =
     elim (cases_lt 0 (length at.left)) [
-      | inr past ↦ over_exact (suc k) at s s' e (omega arith) plain
+      | inr none ↦ over_exact (suc k) at s s' e (omega arith) plain
       | inl some ↦
-          let on = walk_on (suc k) k at s (next_record at) some refl (sym (add-one k)) in
+          let on = walk_on k at s some in
           let more = stored (walked k) at s s' (next_record at) (sym on ∙ e) in
           let r = more.0 in
           let n = size (kind_of r) in

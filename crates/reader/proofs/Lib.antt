@@ -1,3 +1,2 @@
-pub mod Stepping
 pub mod Walking
 pub mod Exact
