@@ -47,12 +47,10 @@ fn numbers_run_from_1_to_18(rt: HostRuntime) {
         },
         Fault::NothingThere,
     ];
-    let mut number = 0u8;
-    for fault in faults {
-        number = number.saturating_add(1);
+    assert_eq!(rt; faults.len(), 18);
+    for (number, fault) in (1..=18).zip(faults) {
         assert_eq!(rt; fault.tell().number, number);
     }
-    assert_eq!(rt; number, 18);
 }
 
 #[test]

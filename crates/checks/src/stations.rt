@@ -26,34 +26,25 @@ fn no_bytes_are_no_records(rt: HostRuntime) -> Result<(), Fail> {
 }
 
 #[test]
-fn a_byte_short_is_a_cut_record(rt: HostRuntime) -> Result<(), Fail> {
-    match walk(&SMALL[0..31]) {
-        Ok(_) => Err(Fail::new("taken")),
-        Err(fault) => {
-            assert_eq!(rt; fault, Fault::CutRecord { record: 4 });
-            Ok(())
-        },
-    }
+fn a_byte_short_is_a_cut_record(rt: HostRuntime) {
+    assert_eq!(rt;
+        walk(&SMALL[0..31]).err(),
+        Some(Fault::CutRecord { record: 4 })
+    );
 }
 
 #[test]
-fn an_earlier_kind_is_out_of_order(rt: HostRuntime) -> Result<(), Fail> {
-    match walk(&[77, 85, 255, 0, 67, 79, 0, 2, 2, 0, 0, 0, 5]) {
-        Ok(_) => Err(Fail::new("taken")),
-        Err(fault) => {
-            assert_eq!(rt; fault, Fault::OutOfOrder { record: 1 });
-            Ok(())
-        },
-    }
+fn an_earlier_kind_is_out_of_order(rt: HostRuntime) {
+    assert_eq!(rt;
+        walk(&[77, 85, 255, 0, 67, 79, 0, 2, 2, 0, 0, 0, 5]).err(),
+        Some(Fault::OutOfOrder { record: 1 })
+    );
 }
 
 #[test]
-fn letters_in_lower_case_are_no_mark(rt: HostRuntime) -> Result<(), Fail> {
-    match walk(b"mu\xff\x00") {
-        Ok(_) => Err(Fail::new("taken")),
-        Err(fault) => {
-            assert_eq!(rt; fault, Fault::UnknownMark { record: 0 });
-            Ok(())
-        },
-    }
+fn letters_in_lower_case_are_no_mark(rt: HostRuntime) {
+    assert_eq!(rt;
+        walk(b"mu\xff\x00").err(),
+        Some(Fault::UnknownMark { record: 0 })
+    );
 }

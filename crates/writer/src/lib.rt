@@ -20,10 +20,8 @@ pub fn write(tables: &Tables) -> Bounded<u8, MOST_BYTES>
     ensures again { ReadAgain (station tables.now) (items result) }
 {
     let mut out = Bounded::new(0);
-    for number in 0..tables.count() {
-        if let Some(record) = tables.record(number) {
-            let _ = append(&mut out, record);
-        }
+    for record in (0..tables.count()).filter_map(|number| tables.record(number)) {
+        let _ = append(&mut out, record);
     }
     out
 }

@@ -1,39 +1,51 @@
-use Rattle.std.proofs.Common.{◌≡◌, ◌<◌, ◌≤◌, length, take, is_ok, sym, ap, ◌∙◌, subst, arith}
+use Rattle.std.proofs.Common.{rules, ℕ, zero, suc, ◌+◌, [], ◌∷◌, drop, ◌≡◌, ◌≤◌, length, refl, List, tests, arith, ◌∙◌, sym, ap, subst, Option, None}
+use Rattle.std.proofs.lemmas.List.{map-id, drop_more, drop_all}
+use Rattle.std.proofs.lemmas.Option.{slice_get-get_or}
+use Rattle.std.proofs.lemmas.Iterator.{YieldsList, YieldsList-from_range}
+use Rattle.std.specs.Iterator.{Yields}
+use Rattle.std.proofs.lemmas.Iterator.Consumers.{YieldsList-at, YieldsList-end, YieldsList-from_filter_map}
+use Rattle.std.specs.List.{slice_get, filter_map, flat_map, range_with_len, AllByRecursion}
 use Rattle.bounded.specs.Items.{items}
-use Rattle.format.specs.Records.{record_bytes}
+use Rattle.format.specs.Records.{station_bytes, record_bytes}
 use Rattle.format.specs.Sound.{FitsWidths}
 use Rattle.reader.specs.Walks.{records}
-use Rattle.std.proofs.ByRecursion.{All-push}
-use Rattle.std.proofs.lemmas.List.{take_all}
-use Rattle.std.specs.List.{flat_map, AllByRecursion}
 use Rattle.tables.specs.Stations.{station, rows}
+use Rattle.tables.specs.declared.records.Record.{Record}
 use Rattle.writer.proofs.Reading.{station_again}
-use Rattle.writer.proofs.Room.{front_more, turn_adds, there_is}
+use Rattle.writer.proofs.Room.{station_length}
 use Rattle.writer.proofs.write.Goals as goal
-use Rattle.writer.proofs.write.Goals.{in-Some, in_default}
 
-pub loop-number-preserved : goal.loop-number-preserved
-loop-number-preserved c =
-    let s = station c.args.tables.now in
-    let n = c.loop-number.number in
-    let inside : n < length (rows s) = omega (arith, c.count-number-end.ensures.value, c.loop-number-test.true) in
-    elim c.match-record.branch [
-      | in-Some w ↦
-          let r = w.in-Some.«record» in (
-            ap items w.out-is
-                ∙ turn_adds s n r (items c.loop-number.out) (items w.append.new.out) (is_ok w.append.result) c.count-number-end.ensures.few inside w.in-Some.ensures c.loop-number.invariant.0 w.append.ensures.value w.append.ensures.after,
-            subst (AllByRecursion FitsWidths) (sym (front_more (rows s) n r inside w.in-Some.ensures)) (All-push FitsWidths (take n (rows s)) r c.loop-number.invariant.1 w.append.ensures.fits),
-          )
-      | in_default w ↦ absurd (there_is (rows s) n inside w.in_default.ensures)
-    ]
+each_from : (rs : List Record) (d : Record) (i n : ℕ) → i + n ≡ length rs → filter_map (slice_get rs) (range_with_len i n) ≡ drop i rs
+each_from rs d i zero h = sym (drop_all i rs (omega arith))
+each_from rs d i (suc n) h =
+    let here = slice_get-get_or rs i d (omega arith) in
+    let first = drop_more rs i d (omega arith) in
+    let more = each_from rs d (i + 1) n (omega arith) in
+    cc
+
+-- the records by their numbers are the records
+each : (rs : List Record) → filter_map (slice_get rs) (range_with_len 0 (length rs)) ≡ rs
+each [] = refl
+each (r ∷ rs) = each_from (r ∷ rs) r 0 (length (r ∷ rs)) (omega arith)
+
+-- at the end of a loop all items have come
+all_yielded :
+    {S : Type 0} {steps : S → Option Record → S → Type 0} {xs rs : List Record} {from : S} (at over : S) (r : Option Record)
+    → Yields steps from xs at → r ≡ None → steps at r over → YieldsList steps (λ x. x) from rs → xs ≡ rs
+all_yielded {xs = xs} at over r y n t e = sym (map-id xs) ∙ (YieldsList-end e xs at y r over n t).0
 
 pub returns : goal.returns
 returns c =
     let s = station c.args.tables.now in
-    let over : length (rows s) ≤ c.loop-number.number = omega (arith, c.count-number-end.ensures.value) in
-    let all : take c.loop-number.number (rows s) ≡ rows s = take_all c.loop-number.number (rows s) over in
-    let bytes = c.loop-number.invariant.0 ∙ ap (flat_map record_bytes) all in
+    let range = YieldsList-from_range 0 c.count.result (length (rows s)) c.filter_map-record-items.ensures.source (omega (arith, c.count.ensures.value)) in
+    let all : c.loop-record.yielded ≡ rows s =
+    all_yielded _ _ _ c.loop-record.yielded_by c.in-None.is c.next.ensures.steps
+    (YieldsList-at c.into_iter-record-iterator.ensures.into_iter_gives
+    (YieldsList-from_filter_map _ (slice_get (rows s)) range c.filter_map-record-items.ensures.closure (λ x r q k. search (rules, tests))))
+    ∙ each (rows s) in
+    let bytes : items c.loop-record.out ≡ station_bytes s =
+    c.loop-record.invariant.bytes (subst (λ l. length (flat_map record_bytes l) ≤ 4384) (sym all) (station_length s c.count.ensures.few)) ∙ ap (flat_map record_bytes) all in
     record {
       bytes = bytes;
-      again = λ plain. ap records bytes ∙ station_again s c.count-number-end.ensures.few (subst (AllByRecursion FitsWidths) all c.loop-number.invariant.1) plain;
+      again = λ plain. ap records bytes ∙ station_again s c.count.ensures.few (subst (AllByRecursion FitsWidths) all c.loop-record.invariant.fits) plain;
     }
