@@ -35,20 +35,20 @@ fn trapped(cause: Cause) -> &'static str {
 
 fn reason(fault: Fault) -> &'static str {
     match fault {
-        Fault::UnknownMark { record: _ } => "unknown mark",
-        Fault::CutRecord { record: _ } => "cut record",
-        Fault::OutOfOrder { record: _ } => "kinds out of order",
-        Fault::TooMany { record: _ } => "too many of a kind",
-        Fault::Broken { rule, record: _ } => broken(rule),
-        Fault::NoImage { place: _ } => "no image",
-        Fault::BadCode { place: _ } => "a rule of the code store is broken",
-        Fault::Unloadable { place: _ } => "the tables have nothing of that number",
-        Fault::ShortBuffer { needed: _ } => "the buffer is too short",
+        Fault::UnknownMark { .. } => "unknown mark",
+        Fault::CutRecord { .. } => "cut record",
+        Fault::OutOfOrder { .. } => "kinds out of order",
+        Fault::TooMany { .. } => "too many of a kind",
+        Fault::Broken { rule, .. } => broken(rule),
+        Fault::NoImage { .. } => "no image",
+        Fault::BadCode { .. } => "a rule of the code store is broken",
+        Fault::Unloadable { .. } => "the tables have nothing of that number",
+        Fault::ShortBuffer { .. } => "the buffer is too short",
         Fault::ClockAtEnd => "the clock is at its end",
-        Fault::Overdue { task: _ } => "not done at its end",
+        Fault::Overdue { .. } => "not done at its end",
         Fault::Stopped => "the machine is stopped",
         Fault::NotOut => "the task is not out",
-        Fault::Trap { cause, address: _ } => trapped(cause),
+        Fault::Trap { cause, .. } => trapped(cause),
         Fault::NothingThere => "there is nothing of that number",
     }
 }
@@ -56,15 +56,12 @@ fn reason(fault: Fault) -> &'static str {
 // The words around the value that comes with a refusal.
 fn site(fault: Fault) -> (&'static str, &'static str) {
     match fault {
-        Fault::NoImage { place: _ } => (" at place ", ""),
-        Fault::BadCode { place: _ } => (" at place ", ""),
-        Fault::Unloadable { place: _ } => (" at place ", ""),
-        Fault::ShortBuffer { needed: _ } => (", ", " bytes are needed"),
-        Fault::Overdue { task: _ } => (" task ", ""),
-        Fault::Trap {
-            cause: _,
-            address: _,
-        } => (" at address ", ""),
+        Fault::NoImage { .. } | Fault::BadCode { .. } | Fault::Unloadable { .. } => {
+            (" at place ", "")
+        }
+        Fault::ShortBuffer { .. } => (", ", " bytes are needed"),
+        Fault::Overdue { .. } => (" task ", ""),
+        Fault::Trap { .. } => (" at address ", ""),
         _ => (" at record ", ""),
     }
 }
@@ -72,14 +69,11 @@ fn site(fault: Fault) -> (&'static str, &'static str) {
 impl fmt::Display for Refused {
     fn fmt<W: fmt::Write>(&self, f: &mut fmt::Formatter<W>) -> fmt::Result {
         let told = self.0.tell();
-        let number = told.number;
-        let why = reason(self.0);
-        match told.value {
-            None => write!(f, "refused {number}: {why}"),
-            Some(value) => {
-                let (before, after) = site(self.0);
-                write!(f, "refused {number}{before}{value}{after}: {why}")
-            }
+        write!(f, "refused {}", told.number)?;
+        if let Some(value) = told.value {
+            let (before, after) = site(self.0);
+            write!(f, "{before}{value}{after}")?;
         }
+        write!(f, ": {}", reason(self.0))
     }
 }

@@ -10,8 +10,18 @@ pub struct Row {
     pub record: Record,
 }
 
+// Each of these shows a field in words; the types of the tables show nothing, for a controller has no use for texts.
 #[derive(Clone, Copy)]
 struct Purpose(Use);
+
+#[derive(Clone, Copy)]
+struct Shape(Form);
+
+#[derive(Clone, Copy)]
+struct Owner(Option<u8>);
+
+#[derive(Clone, Copy)]
+struct Parent(Option<u8>);
 
 impl fmt::Display for Purpose {
     fn fmt<W: fmt::Write>(&self, f: &mut fmt::Formatter<W>) -> fmt::Result {
@@ -24,9 +34,6 @@ impl fmt::Display for Purpose {
     }
 }
 
-#[derive(Clone, Copy)]
-struct Shape(Form);
-
 impl fmt::Display for Shape {
     fn fmt<W: fmt::Write>(&self, f: &mut fmt::Formatter<W>) -> fmt::Result {
         match self.0 {
@@ -37,9 +44,6 @@ impl fmt::Display for Shape {
     }
 }
 
-#[derive(Clone, Copy)]
-struct Owner(Option<u8>);
-
 impl fmt::Display for Owner {
     fn fmt<W: fmt::Write>(&self, f: &mut fmt::Formatter<W>) -> fmt::Result {
         match self.0 {
@@ -48,9 +52,6 @@ impl fmt::Display for Owner {
         }
     }
 }
-
-#[derive(Clone, Copy)]
-struct Parent(Option<u8>);
 
 impl fmt::Display for Parent {
     fn fmt<W: fmt::Write>(&self, f: &mut fmt::Formatter<W>) -> fmt::Result {
@@ -61,102 +62,63 @@ impl fmt::Display for Parent {
     }
 }
 
-fn communicator<W: fmt::Write>(c: Communicator, f: &mut fmt::Formatter<W>) -> fmt::Result {
-    let purpose = Purpose(c.kind);
-    let period = c.period;
-    let initial = c.initial;
-    write!(f, "{purpose}, period {period}, initial {initial}")
-}
-
-fn module<W: fmt::Write>(m: Module, f: &mut fmt::Formatter<W>) -> fmt::Result {
-    let owner = Owner(m.owner);
-    let start = m.start;
-    write!(f, "{owner}, starts in mode {start}")
-}
-
-fn mode<W: fmt::Write>(m: Mode, f: &mut fmt::Formatter<W>) -> fmt::Result {
-    let home = m.home;
-    let period = m.period;
-    write!(f, "in module {home}, period {period}")
-}
-
-fn task<W: fmt::Write>(t: Task, f: &mut fmt::Formatter<W>) -> fmt::Result {
-    let mode = t.mode;
-    let inputs = t.inputs;
-    let outputs = t.outputs;
-    let parent = Parent(t.parent);
-    let shape = Shape(t.form);
-    write!(
-        f,
-        "in mode {mode}, {inputs} inputs, {outputs} outputs, {parent}, {shape}"
-    )
-}
-
-fn read<W: fmt::Write>(r: Read, f: &mut fmt::Formatter<W>) -> fmt::Result {
-    let task = r.task;
-    let input = r.input;
-    let from = r.communicator;
-    let offset = r.offset;
-    write!(
-        f,
-        "task {task} input {input} from communicator {from} at offset {offset}"
-    )
-}
-
-fn write<W: fmt::Write>(w: Write, f: &mut fmt::Formatter<W>) -> fmt::Result {
-    let task = w.task;
-    let output = w.output;
-    let to = w.communicator;
-    let offset = w.offset;
-    write!(
-        f,
-        "task {task} output {output} to communicator {to} at offset {offset}"
-    )
-}
-
-fn dependency<W: fmt::Write>(d: Dependency, f: &mut fmt::Formatter<W>) -> fmt::Result {
-    let task = d.task;
-    let output = d.output;
-    let to = d.to;
-    let input = d.input;
-    write!(f, "task {task} output {output} to task {to} input {input}")
-}
-
-fn switch<W: fmt::Write>(s: Switch, f: &mut fmt::Formatter<W>) -> fmt::Result {
-    let mode = s.mode;
-    let condition = s.condition;
-    let target = s.target;
-    write!(f, "mode {mode} to mode {target} on condition {condition}")
-}
-
-pub(crate) fn kind_word(kind: Kind) -> &'static str {
+// The names of a kind, for one record and for any other number of them.
+pub(crate) fn names(kind: Kind) -> (&'static str, &'static str) {
     match kind {
-        Kind::Communicators => "communicator",
-        Kind::Modules => "module",
-        Kind::Modes => "mode",
-        Kind::Tasks => "task",
-        Kind::Reads => "read",
-        Kind::Writes => "write",
-        Kind::Dependencies => "dependency",
-        Kind::Switches => "switch",
+        Kind::Communicators => ("communicator", "communicators"),
+        Kind::Modules => ("module", "modules"),
+        Kind::Modes => ("mode", "modes"),
+        Kind::Tasks => ("task", "tasks"),
+        Kind::Reads => ("read", "reads"),
+        Kind::Writes => ("write", "writes"),
+        Kind::Dependencies => ("dependency", "dependencies"),
+        Kind::Switches => ("switch", "switches"),
     }
 }
 
 impl fmt::Display for Row {
     fn fmt<W: fmt::Write>(&self, f: &mut fmt::Formatter<W>) -> fmt::Result {
-        let number = self.number;
-        let kind = kind_word(self.record.kind());
-        let place = self.place;
-        write!(f, "record {number}: {kind} {place}: ")?;
+        let (name, _) = names(self.record.kind());
+        write!(f, "record {}: {name} {}: ", self.number, self.place)?;
         match self.record {
-            Record::Communicator(c) => communicator(c, f),
-            Record::Module(m) => module(m, f),
-            Record::Mode(m) => mode(m, f),
-            Record::Task(t) => task(t, f),
-            Record::Read(r) => read(r, f),
-            Record::Write(w) => write(w, f),
-            Record::Dependency(d) => dependency(d, f),
-            Record::Switch(s) => switch(s, f),
+            Record::Communicator(c) => write!(
+                f,
+                "{}, period {}, initial {}",
+                Purpose(c.kind),
+                c.period,
+                c.initial
+            ),
+            Record::Module(m) => write!(f, "{}, starts in mode {}", Owner(m.owner), m.start),
+            Record::Mode(m) => write!(f, "in module {}, period {}", m.home, m.period),
+            Record::Task(t) => write!(
+                f,
+                "in mode {}, {} inputs, {} outputs, {}, {}",
+                t.mode,
+                t.inputs,
+                t.outputs,
+                Parent(t.parent),
+                Shape(t.form)
+            ),
+            Record::Read(r) => write!(
+                f,
+                "task {} input {} from communicator {} at offset {}",
+                r.task, r.input, r.communicator, r.offset
+            ),
+            Record::Write(w) => write!(
+                f,
+                "task {} output {} to communicator {} at offset {}",
+                w.task, w.output, w.communicator, w.offset
+            ),
+            Record::Dependency(d) => write!(
+                f,
+                "task {} output {} to task {} input {}",
+                d.task, d.output, d.to, d.input
+            ),
+            Record::Switch(s) => write!(
+                f,
+                "mode {} to mode {} on condition {}",
+                s.mode, s.target, s.condition
+            ),
         }
     }
 }
