@@ -1,8 +1,9 @@
 -- Bytes by their hexadecimal digits.
 use Rattle.std.specs.Prelude.{◌≡◌, ℕ, ◌+◌, ◌-◌, ◌*◌, Bool, cond, ◌&&◌, List, [], ◌∷◌, Some, None, Option, nat_le}
 use Rattle.command.specs.declared.Misuse.{Misuse}
-use Rattle.command.specs.declared.Misuse.TheVariants.{Unknown, Mark, Fields, Hex, Name, Clear, Records, Read, Help, NoMemory}
+use Rattle.command.specs.declared.Misuse.TheVariants.{Hex, NoMemory}
 
+-- A letter lies between two others.
 abbrev pub from_to : ℕ → ℕ → ℕ → Bool
 from_to low high letter = nat_le low letter && nat_le letter high
 
@@ -20,9 +21,11 @@ pair_of None low = None
 pair_of (Some h) None = None
 pair_of (Some h) (Some l) = Some (h * 16 + l)
 
+-- The byte of two letters, if both are digits.
 abbrev pub pair_value : ℕ → ℕ → Option ℕ
 pair_value high low = pair_of (digit_value high) (digit_value low)
 
+-- A byte before others, if all are there.
 abbrev pub joined : Option ℕ → Option (List ℕ) → Option (List ℕ)
 joined None more = None
 joined (Some b) None = None
@@ -38,11 +41,4 @@ bytes_spelt (a ∷ b ∷ rest) = joined (pair_value a b) (bytes_spelt rest)
 abbrev pub SpellsNone : List ℕ → Misuse → Type 0
 SpellsNone letters Hex = bytes_spelt letters ≡ None
 SpellsNone letters NoMemory = Unit {0}
-SpellsNone letters Unknown = ⊥
-SpellsNone letters Mark = ⊥
-SpellsNone letters (Fields kind) = ⊥
-SpellsNone letters Name = ⊥
-SpellsNone letters Clear = ⊥
-SpellsNone letters Records = ⊥
-SpellsNone letters Read = ⊥
-SpellsNone letters Help = ⊥
+SpellsNone letters why = ⊥

@@ -1,21 +1,19 @@
--- The kind whose mark a word is.
-use Rattle.std.specs.Prelude.{ℕ, Bool, cond, ◌&&◌, List, length, Some, None, Option, ◌==◌}
-use Rattle.format.specs.Records.{marked}
+-- Words that are marks of kinds.
+use Rattle.std.specs.Prelude.{ℕ, Bool, List, [], ◌∷◌, Option, nat_eq}
+use Rattle.std.specs.Cmp.Lexicographic.{pointwise}
+use Rattle.std.specs.List.{find}
+use Rattle.format.specs.Records.{mark}
 use Rattle.tables.specs.declared.records.Kind.{Kind}
 use Rattle.tables.specs.declared.records.Kind.TheVariants.{Communicators, Modules, Modes, Tasks, Reads, Writes, Dependencies, Switches}
 
 -- A word is a kind's mark if it has its two letters and no other.
 abbrev pub is_mark : List ℕ → Kind → Bool
-is_mark word k = length word == 2 && marked word k
+is_mark word k = pointwise nat_eq word (mark k)
 
+-- All kinds in their order.
+abbrev pub kinds : List Kind
+kinds = Communicators ∷ Modules ∷ Modes ∷ Tasks ∷ Reads ∷ Writes ∷ Dependencies ∷ Switches ∷ []
+
+-- The kind whose mark a word is.
 abbrev pub kind_named : List ℕ → Option Kind
-kind_named word =
-    cond (is_mark word Communicators) (Some Communicators)
-    (cond (is_mark word Modules) (Some Modules)
-    (cond (is_mark word Modes) (Some Modes)
-    (cond (is_mark word Tasks) (Some Tasks)
-    (cond (is_mark word Reads) (Some Reads)
-    (cond (is_mark word Writes) (Some Writes)
-    (cond (is_mark word Dependencies) (Some Dependencies)
-    (cond (is_mark word Switches) (Some Switches)
-    None)))))))
+kind_named word = find (is_mark word) kinds

@@ -25,7 +25,7 @@ pub enum Command<'a> {
 }
 
 // What a line should have been, or that there was no memory to take it in.
-#[derive(Clone, Copy)]
+#[derive(Clone, Copy, PartialEq, Eq, Debug)]
 pub enum Misuse {
     Unknown,
     Mark,

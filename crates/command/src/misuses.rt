@@ -1,5 +1,10 @@
-// What was expected, as a line of text.
+// What was expected, as a line of text, and that memory ran out.
+ghost use Rattle.std.specs.Prelude.{◌≡◌};
+ghost use Rattle.command.specs.declared.Misuse.TheVariants.{NoMemory};
+
 use crate::Misuse;
+use std::alloc::AllocFailed;
+use std::error::Error;
 use std::fmt;
 use tables::Kind;
 
@@ -40,7 +45,16 @@ fn form(misuse: Misuse) -> &'static str {
 
 impl fmt::Display for Misuse {
     fn fmt<W: fmt::Write>(&self, f: &mut fmt::Formatter<W>) -> fmt::Result {
-        let form = form(*self);
-        write!(f, "expected: {form}")
+        write!(f, "expected: {}", form(*self))
+    }
+}
+
+impl Error for Misuse {}
+
+impl<T: Drop> From<AllocFailed<T>> for Misuse {
+    ghost from_gives = { λ _ why. why ≡ NoMemory };
+
+    fn from(_failed: AllocFailed<T>) -> Misuse {
+        Self::NoMemory
     }
 }

@@ -10,49 +10,29 @@ use std::alloc::Global;
 use std::str::SplitWhitespace;
 use tables::Record;
 
-fn record(words: &mut SplitWhitespace<'_>) -> Result<Record, Misuse>
-    ensures { IfOk result PlainFields }
+// A value where no word is left.
+fn last<T: Drop>(value: T, words: &mut SplitWhitespace<'_>, misuse: Misuse) -> Result<T, Misuse>
+    ensures ok { IfOk result (λ x. x ≡ value) }
+    ensures err { IfErr result (λ why. why ≡ misuse) }
 {
-    let Some(mark) = words.next() else {
-        return Err(Misuse::Mark);
-    };
-    let Some(kind) = kind_named(mark) else {
-        return Err(Misuse::Mark);
-    };
-    let Some(record) = fields(kind, words) else {
-        return Err(Misuse::Fields(kind));
-    };
-    if words.next().is_some() {
-        return Err(Misuse::Fields(kind));
+    match words.next() {
+        Some(_) => Err(misuse),
+        None => Ok(value),
     }
-    Ok(record)
 }
 
 // The one word that is left.
-fn only<'a>(words: &mut SplitWhitespace<'a>) -> Option<&'a str> {
-    let word = words.next()?;
-    if words.next().is_some() {
-        return None;
-    }
-    Some(word)
+fn only<'a>(words: &mut SplitWhitespace<'a>, misuse: Misuse) -> Result<&'a str, Misuse> {
+    let word = words.next().ok_or(misuse)?;
+    last(word, words, misuse)
 }
 
-fn bytes(heap: Global, words: &mut SplitWhitespace<'_>) -> Result<Vec<u8>, Misuse> {
-    match only(words) {
-        Some(text) => bytes_of(heap, text),
-        None => Err(Misuse::Hex),
-    }
-}
-
-// Nothing is left.
-fn at_end(words: &mut SplitWhitespace<'_>, misuse: Misuse) -> Result<(), Misuse>
-    ensures { IfErr result (λ why. why ≡ misuse) }
+fn record(words: &mut SplitWhitespace<'_>) -> Result<Record, Misuse>
+    ensures { IfOk result PlainFields }
 {
-    if words.next().is_some() {
-        Err(misuse)
-    } else {
-        Ok(())
-    }
+    let kind = words.next().and_then(kind_named).ok_or(Misuse::Mark)?;
+    let record = fields(kind, words).ok_or(Misuse::Fields(kind))?;
+    last(record, words, Misuse::Fields(kind))
 }
 
 // The command of a line without comments.
@@ -65,27 +45,12 @@ fn command<'a>(heap: Global, line: &'a str) -> Result<Command<'a>, Misuse>
     };
     match first {
         "record" => Ok(Command::Record(record(&mut words)?)),
-        "bytes" => Ok(Command::Bytes(bytes(heap, &mut words)?)),
-        "file" => match only(&mut words) {
-            Some(name) => Ok(Command::File(name)),
-            None => Err(Misuse::Name),
-        },
-        "clear" => {
-            at_end(&mut words, Misuse::Clear)?;
-            Ok(Command::Clear)
-        }
-        "records" => {
-            at_end(&mut words, Misuse::Records)?;
-            Ok(Command::Records)
-        }
-        "read" => {
-            at_end(&mut words, Misuse::Read)?;
-            Ok(Command::Read)
-        }
-        "help" => {
-            at_end(&mut words, Misuse::Help)?;
-            Ok(Command::Help)
-        }
+        "bytes" => Ok(Command::Bytes(bytes_of(heap, only(&mut words, Misuse::Hex)?)?)),
+        "file" => Ok(Command::File(only(&mut words, Misuse::Name)?)),
+        "clear" => last(Command::Clear, &mut words, Misuse::Clear),
+        "records" => last(Command::Records, &mut words, Misuse::Records),
+        "read" => last(Command::Read, &mut words, Misuse::Read),
+        "help" => last(Command::Help, &mut words, Misuse::Help),
         _ => Err(Misuse::Unknown),
     }
 }
@@ -97,8 +62,6 @@ pub fn parse<'a>(heap: Global, line: &'a str) -> Result<Command<'a>, Misuse>
     if let Some(heading) = line.strip_prefix("##") {
         return Ok(Command::Heading(heading.trim()));
     }
-    match line.split_once('#') {
-        Some((before, _)) => command(heap, before),
-        None => command(heap, line),
-    }
+    let said = line.split_once('#').map_or(line, |(before, _)| before);
+    command(heap, said)
 }

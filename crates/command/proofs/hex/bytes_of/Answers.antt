@@ -1,26 +1,29 @@
-use Rattle.std.proofs.Common.{◌≡◌, ◌+◌, [], ◌∷◌, ◌++◌, get_or, Some, None, vec_items, sym, ap, ◌∙◌, arith, rules}
-use Rattle.command.specs.Hex.{bytes_spelt, pair_value}
-use Rattle.command.proofs.Spelling.{spelt_more, spelt_wrong, spelt_left, spelt_all}
+use Rattle.std.proofs.Common.{◌≡◌, ◌≢◌, ◌*◌, ◌/◌, length, [], ◌∷◌, ◌++◌, get_or, Some, None, vec_items, arith, rules}
+use Rattle.std.specs.Simd.{first_chunks}
+use Rattle.command.specs.Hex.{bytes_spelt}
+use Rattle.command.proofs.Spelling.{spelt_by, spelt_more, spelt_wrong, spelt_left, spelt_all}
 use Rattle.command.proofs.hex.bytes_of.Goals as goal
 
-pub returns-then-letters-at-lt2 : goal.returns-then-letters-at-lt2
-returns-then-letters-at-lt2 c =
-    ap bytes_spelt (sym c.as_bytes-letters.ensures.value)
-    ∙ spelt_left c.as_bytes-letters.result.now (vec_items c.loop-at.out) c.loop-at.at (omega arith) (omega arith) c.loop-at.invariant.1
+pub loop-high-preserved : goal.loop-high-preserved
+loop-high-preserved c =
+    let e : c.as_chunks.result.0.now ≡ first_chunks 2 (length c.args.text.now / 2) c.args.text.now = cc (c.as_chunks.ensures.front, c.as_bytes.ensures.value) in
+    let p : spelt_by (get_or c.as_chunks.result.0.now c.loop-high.high-index []) ≡ Some c.in_ok-ok_or.field-0 = search rules in
+    let i : vec_items c.push.new.self ≡ vec_items c.loop-high.out ++ c.in_ok-ok_or.field-0 ∷ [] = search rules in
+    simp i (spelt_more c.args.text.now (vec_items c.loop-high.out) c.as_chunks.result.0.now c.loop-high.high-index c.in_ok-ok_or.field-0 e (omega arith) p c.loop-high.invariant)
 
-pub returns-in_default : goal.returns-in_default
-returns-in_default c =
-    let p : pair_value (get_or c.as_bytes-letters.result.now c.loop-at.at 0) (get_or c.as_bytes-letters.result.now (c.loop-at.at + 1) 0) ≡ None = search rules in
-    ap bytes_spelt (sym c.as_bytes-letters.ensures.value)
-    ∙ spelt_wrong c.as_bytes-letters.result.now (vec_items c.loop-at.out) c.loop-at.at (omega arith) p c.loop-at.invariant.1
+pub returns-in_err-ok_or : goal.returns-in_err-ok_or
+returns-in_err-ok_or c =
+    let e : c.as_chunks.result.0.now ≡ first_chunks 2 (length c.args.text.now / 2) c.args.text.now = cc (c.as_chunks.ensures.front, c.as_bytes.ensures.value) in
+    let p : spelt_by (get_or c.as_chunks.result.0.now c.loop-high.high-index []) ≡ None = search rules in
+    let n : bytes_spelt c.args.text.now ≡ None = spelt_wrong c.args.text.now (vec_items c.loop-high.out) c.as_chunks.result.0.now c.loop-high.high-index e (omega arith) p c.loop-high.invariant in
+    search rules
 
-pub loop-at-preserved : goal.loop-at-preserved
-loop-at-preserved c =
-    let p : pair_value (get_or c.as_bytes-letters.result.now c.loop-at.at 0) (get_or c.as_bytes-letters.result.now (c.loop-at.at + 1) 0) ≡ Some c.in-Some.byte = search rules in
-    let e : vec_items c.push.new.self ≡ vec_items c.loop-at.out ++ c.in-Some.byte ∷ [] = search rules in
-    (omega arith, simp e (spelt_more c.as_bytes-letters.result.now (vec_items c.loop-at.out) c.loop-at.at c.in-Some.byte (omega arith) p c.loop-at.invariant.1))
+pub returns-then-is_empty : goal.returns-then-is_empty
+returns-then-is_empty c =
+    let none : length c.as_chunks.result.1.now ≡ 0 = search rules in
+    spelt_all c.args.text.now (vec_items c.loop-high.out) (c.loop-high.high-index * 2) (omega arith) c.loop-high.invariant
 
-pub returns : goal.returns
-returns c =
-    ap bytes_spelt (sym c.as_bytes-letters.ensures.value)
-    ∙ spelt_all c.as_bytes-letters.result.now (vec_items c.loop-at.out) c.loop-at.at (omega arith) c.loop-at.invariant.1
+pub returns-else-is_empty : goal.returns-else-is_empty
+returns-else-is_empty c =
+    let some : length c.as_chunks.result.1.now ≢ 0 = search rules in
+    spelt_left c.args.text.now (vec_items c.loop-high.out) (c.loop-high.high-index * 2) (omega arith) c.loop-high.invariant
