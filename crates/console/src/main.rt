@@ -31,17 +31,15 @@ fn from_file(rt: &HostRuntime, session: &mut Session, name: &str) -> io::Result<
 
 fn main(rt: HostRuntime) -> io::Result<()> {
     let mut session = Session::new(rt.alloc());
-    let mut named = false;
-    for name in env::args(&rt)?.skip(1) {
-        named = true;
-        if name.as_str() == "-" {
-            from_input(&rt, &mut session)?;
-        } else {
-            from_file(&rt, &mut session, name.as_str())?;
-        }
+    let mut names = env::args(&rt)?.skip(1).peekable();
+    if names.peek().is_none() {
+        return from_input(&rt, &mut session);
     }
-    if !named {
-        from_input(&rt, &mut session)?;
+    for name in names {
+        match name.as_str() {
+            "-" => from_input(&rt, &mut session)?,
+            named => from_file(&rt, &mut session, named)?,
+        }
     }
     Ok(())
 }

@@ -1,12 +1,11 @@
 // What a user has gathered, and what each command does with it.
 use bounded::Bounded;
 use command::{Command, HELP, parse};
-use fault::Fault;
 use format::append;
-use reader::{Cursor, read, walk};
+use reader::{Cursor, Numbered, read, walk};
 use std::alloc::Global;
-use std::{fs, io};
-use tables::{Record, Tables};
+use std::{fs, io, iter};
+use tables::Record;
 use words::{Holdings, Refused, Row};
 
 // The bytes of the longest record.
@@ -18,32 +17,19 @@ pub(crate) struct Session {
     bytes: Vec<u8>,
 }
 
-// How many records a walk took before it ended or refused one.
-fn taken(verdict: &Result<Tables, Fault>) -> usize {
-    match verdict {
-        Ok(tables) => tables.count(),
-        Err(fault) => fault.tell().value.unwrap_or(0),
-    }
-}
-
 // A line for each of the first records.
 fn list(rt: &HostRuntime, bytes: &[u8], count: usize) -> io::Result<()> {
     let mut cursor = Cursor::new(bytes);
-    let mut rank = 0;
-    let mut place = 0;
-    for _ in 0..count {
-        let Ok(Some(next)) = cursor.next() else {
-            return Ok(());
-        };
-        let number = next.number;
-        let record = next.record;
-        if record.kind().rank() != rank {
-            rank = record.kind().rank();
-            place = number;
+    let mut kind = None;
+    let mut first = 0;
+    for Numbered { number, record } in iter::from_fn(|| cursor.next().ok().flatten()).take(count) {
+        if kind != Some(record.kind()) {
+            kind = Some(record.kind());
+            first = number;
         }
         let row = Row {
             number,
-            place: number.saturating_sub(place),
+            place: number.saturating_sub(first),
             record,
         };
         println!(rt; "{row}")?;
@@ -60,10 +46,10 @@ impl Session {
 
     // Puts bytes after those that are there.
     fn gather(&mut self, rt: &HostRuntime, more: &[u8]) -> io::Result<()> {
-        if self.bytes.extend_from_slice(more).is_err() {
-            return println!(rt; "no memory is left for these bytes");
+        match self.bytes.extend_from_slice(more) {
+            Ok(()) => Ok(()),
+            Err(_) => println!(rt; "no memory is left for these bytes"),
         }
-        Ok(())
     }
 
     fn gather_record(&mut self, rt: &HostRuntime, record: Record) -> io::Result<()> {
@@ -82,14 +68,15 @@ impl Session {
     // A line for each record up to the end or to the one refused, and what came of the walk.
     fn report(&self, rt: &HostRuntime) -> io::Result<()> {
         let bytes = self.bytes.as_slice();
-        let verdict = walk(bytes);
-        let count = taken(&verdict);
-        list(rt, bytes, count)?;
-        match verdict {
-            Ok(_) => println!(rt; "walked {count} records"),
+        match walk(bytes) {
+            Ok(tables) => {
+                let count = tables.count();
+                list(rt, bytes, count)?;
+                println!(rt; "walked {count} records")
+            }
             Err(fault) => {
-                let refused = Refused(fault);
-                println!(rt; "{refused}")
+                list(rt, bytes, fault.tell().value.unwrap_or(0))?;
+                println!(rt; "{}", Refused(fault))
             }
         }
     }
@@ -97,14 +84,8 @@ impl Session {
     // Whether the tables keep every rule, or the first that is broken and where.
     fn judge(&self, rt: &HostRuntime) -> io::Result<()> {
         match read(self.bytes.as_slice()) {
-            Ok(accepted) => {
-                let holdings = Holdings(accepted.tables());
-                println!(rt; "accepted: {holdings}")
-            }
-            Err(fault) => {
-                let refused = Refused(fault);
-                println!(rt; "{refused}")
-            }
+            Ok(accepted) => println!(rt; "accepted: {}", Holdings(accepted.tables())),
+            Err(fault) => println!(rt; "{}", Refused(fault)),
         }
     }
 
