@@ -20,7 +20,7 @@ fn answer(heap: Global, line: &str) -> Result<String, AllocError> {
     match parse(heap, line) {
         Ok(Command::Record(record)) => {
             let mut out = Bounded::<u8, 9>::new(0);
-            let _ = append(&mut out, record);
+            append(&mut out, record).unwrap();
             spelt(heap, out.as_slice())
         }
         Ok(Command::Bytes(more)) => spelt(heap, more.as_slice()),
@@ -37,9 +37,7 @@ fn answer(heap: Global, line: &str) -> Result<String, AllocError> {
 
 fn holds(rt: &impl Abort, heap: Global, cases: &str) -> Result<(), Fail> {
     for case in cases.lines() {
-        let Some((line, given)) = case.split_once(" => ") else {
-            return Err(Fail::new(case));
-        };
+        let (line, given) = case.split_once(" => ").ok_or(case)?;
         let text = answer(heap, line)?;
         assert_eq!(rt; text.as_str(), given);
     }

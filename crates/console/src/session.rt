@@ -54,7 +54,7 @@ impl Session {
 
     fn gather_record(&mut self, rt: &HostRuntime, record: Record) -> io::Result<()> {
         let mut out = Bounded::<u8, LONGEST>::new(0);
-        let _ = append(&mut out, record);
+        append(&mut out, record).unwrap();
         self.gather(rt, out.as_slice())
     }
 
