@@ -10,7 +10,7 @@ pub struct Row {
     pub record: Record,
 }
 
-// Each of these shows a field in words; the types of the tables show nothing, for a controller has no use for texts.
+// Fields in words: the types of the tables show nothing, since the core runs on a controller and has no texts.
 #[derive(Clone, Copy)]
 struct Purpose(Use);
 
