@@ -9,17 +9,6 @@ use crate::Flaw;
 use crate::write::mark;
 use tables::*;
 
-const KINDS: [Kind; 8] = [
-    Kind::Communicators,
-    Kind::Modules,
-    Kind::Modes,
-    Kind::Tasks,
-    Kind::Reads,
-    Kind::Writes,
-    Kind::Dependencies,
-    Kind::Switches,
-];
-
 // The owner or parent that a byte stands for; 255 is none.
 pub fn number(byte: u8) -> Option<u8>
     ensures { result ≡ number_or_none byte }
@@ -54,7 +43,7 @@ pub fn form_of(byte: u8) -> Form
 fn kind_of(bytes: &[u8]) -> Option<Kind>
     ensures { result ≡ find (marked bytes.now) kinds }
 {
-    KINDS
+    Kind::ALL
         .iter()
         .copied()
         .find(|kind| bytes.starts_with(&mark(*kind)))

