@@ -1,7 +1,7 @@
 // What is asked of a running station, and what it answers.
 #![tactic(auto)]
 
-// What happened in a call: the clock, the communicators written, the modes entered and the tasks released, by number.
+// What happened in a call: the clock, the communicators written, the modes entered and the tasks released, each by the numbers of its own kind.
 #[derive(Clone, Copy, PartialEq, Eq, Debug)]
 pub struct Events {
     pub clock: u32,

@@ -94,6 +94,7 @@ pub enum Instruction {
 }
 
 impl Register {
+    // The cast gives the place in the order of declaration.
     pub fn number(self) -> u16
         ensures { result ≡ register_number self }
     {
@@ -190,6 +191,7 @@ impl Word {
             first,
             second,
         } = self;
+        // A first operand of a byte is cast: that it fits is proved from the test above.
         let (ticks, address) = (first, second);
         let (x, y) = (
             Register::try_from(first).ok(),

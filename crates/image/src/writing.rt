@@ -29,7 +29,7 @@ pub fn write(store: &CodeStore, buffer: &mut [u8]) -> Result<usize, Fault>
     Ok(needed)
 }
 
-// The four bytes before the instructions.
+// The four bytes before the instructions; that the count fits two bytes is proved.
 fn head(count: usize) -> [u8; 4]
     requires { count < 65536 }
     ensures { result ≡ head_of count }

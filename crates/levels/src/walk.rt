@@ -30,6 +30,7 @@ fn module_meets(tables: &Tables, target: usize, levels: u8, m: usize) -> bool
     if m == target {
         return true;
     }
+    // A mode is named by a byte, and there are at most 64: the cast is proved to fit.
     for (d, mode) in tables.modes().iter().enumerate() {
         if usize::from(mode.home) == m && mode_meets(tables, target, levels, d as u8) {
             return true;

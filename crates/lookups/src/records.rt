@@ -11,6 +11,7 @@ pub fn item<T: Copy>(all: &[T], i: usize, blank: T) -> T
     all.get(i).copied().unwrap_or(blank)
 }
 
+// A name for each kind of record over the one generic look-up, since `mode(tables, d)` says more plainly what types and defaults would say at each use.
 pub fn communicator(tables: &Tables, i: usize) -> Communicator
     ensures { result ≡ communicator_at (station tables.now) i }
 {

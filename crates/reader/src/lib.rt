@@ -15,7 +15,7 @@ pub use accepting::read;
 pub use walks::walk;
 
 // A record with its number, counted from 0 over all kinds.
-#[derive(Clone, Copy)]
+#[derive(Clone, Copy, PartialEq, Eq, Debug)]
 pub struct Numbered {
     pub number: usize,
     pub record: Record,

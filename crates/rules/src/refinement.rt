@@ -32,6 +32,7 @@ fn writes_to(tables: &Tables, t: u8, c: u8) -> bool
         .any(|x| x.task == t && x.communicator == c)
 }
 
+// The question of `writes_to`, of other fields of another list.
 fn depends_on(tables: &Tables, t: u8, u: u8) -> bool
     ensures { result ≡ depends (station tables.now) t u }
 {

@@ -18,7 +18,7 @@ pub struct Job {
     pub outputs: [i32; 4],
 }
 
-// Values by communicator, a job by task, active mode by module, none while it rests.
+// Values by communicator, a job by task, active mode by module, none while it rests: each by the numbers of its own kind.
 #[derive(Clone, Copy, PartialEq, Eq, Debug)]
 pub struct Scene {
     pub values: [i32; 32],

@@ -19,6 +19,7 @@ impl Rack {
     }
 }
 
+// Showing and driving are the outputs' own, and each stand hands them on.
 impl Plant for Rack {
     ghost means = { λ t. rack_means t.wires t.outputs.values };
 

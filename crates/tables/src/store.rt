@@ -23,7 +23,7 @@ impl Kind {
         Kind::Switches,
     ];
 
-    // The place in the order of the kinds.
+    // The place in the order of the kinds, which is that of their declaration.
     pub fn rank(self) -> u8
         ensures { result ≡ rank self }
     {

@@ -39,6 +39,8 @@ fn write_offset(tables: &Tables, t: usize) -> u16
     earliest_write(tables, t, mode(tables, home).period)
 }
 
+// This chain and the next read opposite ends of a dependency and keep opposite extremes: one chain for both would take three closures.
+
 // The latest of an offset and the openings of those that a task depends on.
 fn latest_opening(tables: &Tables, openings: &[u16], t: usize, from: u16) -> u16
     ensures { result ≡ fold max from (map (λ d. slice_index openings.now d.task) (filter (λ d. d.to == t) (station tables.now).dependencies)) }

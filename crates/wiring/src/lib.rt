@@ -16,6 +16,8 @@ fn is_due(communicators: &[Communicator], kind: Use, clock: u32, i: usize) -> bo
     c.kind == kind && c.period > 0 && clock % u32::from(c.period) == 0
 }
 
+// Sensors and outputs have bytes for numbers, and there are 32 values: the casts are proved to fit.
+
 // Every sensor whose period divides the clock gives its communicator what the plant senses, ascending.
 #[tactic(auto, using(crate::proofs::Turns::turns))]
 pub fn sense_due<P: Plant>(

@@ -3,7 +3,7 @@ use fault::{Cause, Fault, Rule};
 use std::fmt;
 
 // The fault that the line is made of.
-#[derive(Clone, Copy)]
+#[derive(Clone, Copy, PartialEq, Eq, Debug)]
 pub struct Refused(pub Fault);
 
 // What tables that break a rule do wrong.

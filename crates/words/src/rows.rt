@@ -3,7 +3,7 @@ use std::fmt;
 use tables::*;
 
 // A record with its number over all kinds and its place among those of its kind.
-#[derive(Clone, Copy)]
+#[derive(Clone, Copy, PartialEq, Eq, Debug)]
 pub struct Row {
     pub number: usize,
     pub place: usize,
@@ -17,11 +17,13 @@ struct Purpose(Use);
 #[derive(Clone, Copy)]
 struct Shape(Form);
 
+// An owner or parent by the words before its number, or the words for none.
 #[derive(Clone, Copy)]
-struct Owner(Option<u8>);
-
-#[derive(Clone, Copy)]
-struct Parent(Option<u8>);
+struct OrNone {
+    number: Option<u8>,
+    before: &'static str,
+    none: &'static str,
+}
 
 impl fmt::Display for Purpose {
     fn fmt<W: fmt::Write>(&self, f: &mut fmt::Formatter<W>) -> fmt::Result {
@@ -44,21 +46,28 @@ impl fmt::Display for Shape {
     }
 }
 
-impl fmt::Display for Owner {
+impl fmt::Display for OrNone {
     fn fmt<W: fmt::Write>(&self, f: &mut fmt::Formatter<W>) -> fmt::Result {
-        match self.0 {
-            None => f.write_str("top"),
-            Some(mode) => write!(f, "owned by mode {mode}"),
+        match self.number {
+            None => f.write_str(self.none),
+            Some(number) => write!(f, "{} {number}", self.before),
         }
     }
 }
 
-impl fmt::Display for Parent {
-    fn fmt<W: fmt::Write>(&self, f: &mut fmt::Formatter<W>) -> fmt::Result {
-        match self.0 {
-            None => f.write_str("no parent"),
-            Some(task) => write!(f, "parent task {task}"),
-        }
+fn owner(number: Option<u8>) -> OrNone {
+    OrNone {
+        number,
+        before: "owned by mode",
+        none: "top",
+    }
+}
+
+fn parent(number: Option<u8>) -> OrNone {
+    OrNone {
+        number,
+        before: "parent task",
+        none: "no parent",
     }
 }
 
@@ -88,7 +97,7 @@ impl fmt::Display for Row {
                 c.period,
                 c.initial
             ),
-            Record::Module(m) => write!(f, "{}, starts in mode {}", Owner(m.owner), m.start),
+            Record::Module(m) => write!(f, "{}, starts in mode {}", owner(m.owner), m.start),
             Record::Mode(m) => write!(f, "in module {}, period {}", m.home, m.period),
             Record::Task(t) => write!(
                 f,
@@ -96,7 +105,7 @@ impl fmt::Display for Row {
                 t.mode,
                 t.inputs,
                 t.outputs,
-                Parent(t.parent),
+                parent(t.parent),
                 Shape(t.form)
             ),
             Record::Read(r) => write!(
