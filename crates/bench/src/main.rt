@@ -11,22 +11,26 @@ const ROUNDS: u32 = 1000;
 // The bytes of the largest image: a head and six for each instruction.
 const IMAGE_BYTES: usize = 24580;
 
-fn told(rt: &HostRuntime, what: &str, start: Instant) -> io::Result<()> {
+// Does a job again and again and tells how long one round took on the mean; the sum of what it gave.
+fn measured<F: FnMut() -> usize>(rt: &HostRuntime, what: &str, mut job: F) -> io::Result<usize>
+    requires { F.IsAlwaysCallable job }
+{
+    let mut sum = 0usize;
+    let start = Instant::now(rt)?;
+    for _ in 0..ROUNDS {
+        sum = sum.saturating_add(job());
+    }
     let mean = start.elapsed(rt)?.as_nanos() / u128::from(ROUNDS);
-    eprintln!(rt; "{what}: {mean} ns")
+    eprintln!(rt; "{what}: {mean} ns")?;
+    Ok(sum)
 }
 
 // Reads a station's tables again and again; how many records were accepted in all.
 fn tables(rt: &HostRuntime, name: &str) -> io::Result<()> {
     let bytes = fs::read(rt, name)?;
-    let mut records = 0usize;
-    let start = Instant::now(rt)?;
-    for _ in 0..ROUNDS {
-        if let Ok(accepted) = reader::read(bytes.as_slice()) {
-            records = records.saturating_add(accepted.tables().count());
-        }
-    }
-    told(rt, name, start)?;
+    let records = measured(rt, name, || {
+        reader::read(bytes.as_slice()).map_or(0, |accepted| accepted.tables().count())
+    })?;
     println!(rt; "{name}: {records} records accepted")
 }
 
@@ -36,22 +40,12 @@ fn images(rt: &HostRuntime) -> io::Result<()> {
         return println!(rt; "no code");
     };
     let mut buffer = vec![in rt.alloc(); 0u8; IMAGE_BYTES]?;
-    let mut written = 0usize;
-    let start = Instant::now(rt)?;
-    for _ in 0..ROUNDS {
-        if let Ok(len) = image::write(&store, &mut buffer) {
-            written = written.saturating_add(len);
-        }
-    }
-    told(rt, "image written", start)?;
-    let mut read = 0usize;
-    let start = Instant::now(rt)?;
-    for _ in 0..ROUNDS {
-        if let Ok(code) = image::read(buffer.as_slice()) {
-            read = read.saturating_add(code.len());
-        }
-    }
-    told(rt, "image read", start)?;
+    let written = measured(rt, "image written", || {
+        image::write(&store, &mut buffer).unwrap_or(0)
+    })?;
+    let read = measured(rt, "image read", || {
+        image::read(buffer.as_slice()).map_or(0, |code| code.len())
+    })?;
     println!(rt; "images: {written} bytes written, {read} instructions read")
 }
 

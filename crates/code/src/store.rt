@@ -20,11 +20,11 @@ impl CodeStore {
         ensures value { held result ≡ stored (length code.now) code.now }
         ensures sound { Decides (is_ok result) (Sound (length code.now) code.now) }
     {
+        let refused = Fault::BadCode { place: 0 };
         let mut kept = Bounded::new(Instruction::Return);
-        let fits = kept.extend_from_slice(code).is_ok();
-        let ends = code.last().is_some_and(|last| last.word().opcode.is_end());
-        if !fits || !ends {
-            return Err(Fault::BadCode { place: 0 });
+        kept.extend_from_slice(code).map_err(|_| refused)?;
+        if !code.last().is_some_and(|last| last.word().opcode.is_end()) {
+            return Err(refused);
         }
         match first_bad(code) {
             Some(place) => Err(Fault::BadCode { place }),

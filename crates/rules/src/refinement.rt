@@ -1,5 +1,5 @@
 // What refines an abstract task stays within it.
-ghost use Rattle.std.specs.Prelude.{◌≡◌};
+ghost use Rattle.std.specs.Prelude.{◌≡◌, Some};
 ghost use Rattle.tables.specs.Stations.{station};
 ghost use Rattle.lookups.specs.Lookups.{owner_of};
 ghost use Rattle.rules.specs.Rules.{apart_one, owns, has_abstract, writes_to, depends, depends_on_parent, writes_within, depends_within, apart_from_siblings, refines, has_its_parent, well_refined};
@@ -48,60 +48,89 @@ fn depends_on_parent(tables: &Tables, p: u8, parent: Option<u8>) -> bool
     parent.is_some_and(|q| depends_on(tables, p, q))
 }
 
-fn writes_within(tables: &Tables, t: usize, p: u8) -> bool
-    ensures { result ≡ writes_within (station tables.now) t p }
-{
-    tables.writes().iter().all(|x| usize::from(x.task) != t || writes_to(tables, p, x.communicator))
+// A task that refines another, in the tables of both.
+#[derive(Clone, Copy)]
+struct Refinement<'a> {
+    tables: &'a Tables,
+    task: usize,
+    parent: u8,
 }
 
-fn depends_within(tables: &Tables, t: usize, p: u8) -> bool
-    ensures { result ≡ depends_within (station tables.now) t p }
-{
-    tables.dependencies().iter().all(|x| {
-        usize::from(x.to) != t
-            || depends_on_parent(tables, p, task(tables, usize::from(x.task)).parent)
-    })
+impl Refinement<'_> {
+    fn writes_within(&self) -> bool
+        ensures { result ≡ writes_within (station self.now.tables.now) self.now.task self.now.parent }
+    {
+        let Refinement {
+            tables,
+            task: t,
+            parent: p,
+        } = *self;
+        tables.writes().iter().all(|x| usize::from(x.task) != t
+            || writes_to(tables, p, x.communicator))
+    }
+
+    fn depends_within(&self) -> bool
+        ensures { result ≡ depends_within (station self.now.tables.now) self.now.task self.now.parent }
+    {
+        let Refinement {
+            tables,
+            task: t,
+            parent: p,
+        } = *self;
+        tables.dependencies().iter().all(|x| {
+            usize::from(x.to) != t
+                || depends_on_parent(tables, p, task(tables, usize::from(x.task)).parent)
+        })
+    }
+
+    // An earlier task is no sibling, or lies in another mode of the same module.
+    fn is_apart_from(&self, u: usize) -> bool
+        ensures { result ≡ apart_one (station self.now.tables.now) u self.now.task self.now.parent }
+    {
+        let Refinement {
+            tables,
+            task: t,
+            parent: p,
+        } = *self;
+        !is_number(task(tables, u).parent, usize::from(p))
+            || (task(tables, u).mode != task(tables, t).mode
+                && module_of(tables, u) == module_of(tables, t))
+    }
+
+    fn is_apart_from_siblings(&self) -> bool
+        ensures { result ≡ apart_from_siblings (station self.now.tables.now) self.now.task self.now.parent }
+    {
+        (0..self.task).all(|u| self.is_apart_from(u))
+    }
 }
 
-// An earlier task is no sibling, or lies in another mode of the same module.
-fn apart(tables: &Tables, u: usize, t: usize, p: u8) -> bool
-    ensures { result ≡ apart_one (station tables.now) u t p }
+// A task refines another of a mode.
+fn refines(timed: &Timed<'_>, t: usize, o: u8, p: u8) -> bool
+    ensures { result ≡ refines (station timed.now.tables.now) t o (Some p) }
 {
-    !is_number(task(tables, u).parent, usize::from(p))
-        || (task(tables, u).mode != task(tables, t).mode
-            && module_of(tables, u) == module_of(tables, t))
-}
-
-fn apart_from_siblings(tables: &Tables, t: usize, p: u8) -> bool
-    ensures { result ≡ apart_from_siblings (station tables.now) t p }
-{
-    (0..t).all(|u| apart(tables, u, t, p))
-}
-
-fn refines_task(timed: &Timed<'_>, t: usize, o: u8, parent: Option<u8>) -> bool
-    ensures { result ≡ refines (station timed.now.tables.now) t o parent }
-{
-    let Some(p) = parent else {
-        return false;
-    };
     let (tables, windows) = (timed.tables, &timed.windows);
+    let refinement = Refinement {
+        tables,
+        task: t,
+        parent: p,
+    };
     let x = task(tables, usize::from(p));
     is_abstract(x.form)
         && x.mode == o
         && windows.opening(t) <= windows.opening(usize::from(p))
         && windows.end(usize::from(p)) <= windows.end(t)
-        && writes_within(tables, t, p)
-        && depends_within(tables, t, p)
-        && apart_from_siblings(tables, t, p)
+        && refinement.writes_within()
+        && refinement.depends_within()
+        && refinement.is_apart_from_siblings()
 }
 
 fn has_its_parent(timed: &Timed<'_>, t: usize) -> bool
     ensures { result ≡ has_its_parent (station timed.now.tables.now) t (owner_of (station timed.now.tables.now) t) }
 {
-    let parent = task(timed.tables, t).parent;
-    match owner_of(timed.tables, t) {
-        None => parent.is_none(),
-        Some(o) => refines_task(timed, t, o, parent),
+    match (owner_of(timed.tables, t), task(timed.tables, t).parent) {
+        (None, parent) => parent.is_none(),
+        (Some(_), None) => false,
+        (Some(o), Some(p)) => refines(timed, t, o, p),
     }
 }
 

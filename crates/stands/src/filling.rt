@@ -4,7 +4,7 @@ ghost use Rattle.stands.specs.Stands.{held, filled, tank_means};
 ghost use Rattle.std.proofs.Common.{rules};
 
 use crate::Tank;
-use crate::outputs::Outputs;
+use crate::outputs::{Outputs, within};
 use plant::Plant;
 
 // A level after a pass, held to 0 to 10,000.
@@ -45,7 +45,7 @@ impl Plant for Tank {
     ghost inert = { Prim.search rules };
 
     fn sense(&self, i: u8) -> i32 {
-        self.levels.get(usize::from(i)).copied().unwrap_or(0)
+        within(&self.levels, i)
     }
 
     fn shown(&self, i: u8) -> i32 {

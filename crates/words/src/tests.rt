@@ -1,22 +1,8 @@
 // The lines, word by word.
 use crate::*;
 use fault::*;
-use std::alloc::Global;
-use std::fmt::Display;
-use std::process::Abort;
 use std::test::Fail;
 use tables::*;
-
-fn shows<T: Display + Drop>(
-    rt: &impl Abort,
-    heap: Global,
-    shown: T,
-    line: &str,
-) -> Result<(), Fail> {
-    let text = shown.to_string(heap)?;
-    assert_eq!(rt; text.as_str(), line);
-    Ok(())
-}
 
 fn broken(rule: Rule) -> Fault {
     Fault::Broken { rule, record: 7 }
@@ -137,7 +123,8 @@ fn of_refusals(rt: HostRuntime) -> Result<(), Fail> {
         ),
     ];
     for (fault, line) in cases {
-        shows(&rt, rt.alloc(), Refused(fault), line)?;
+        let shown = Refused(fault).to_string(rt.alloc())?;
+        assert_eq!(rt; shown.as_str(), line);
     }
     Ok(())
 }
@@ -278,7 +265,8 @@ fn of_records(rt: HostRuntime) -> Result<(), Fail> {
         ),
     ];
     for (row, line) in cases {
-        shows(&rt, rt.alloc(), row, line)?;
+        let shown = row.to_string(rt.alloc())?;
+        assert_eq!(rt; shown.as_str(), line);
     }
     Ok(())
 }
