@@ -3,7 +3,7 @@
 
 usage: python3 tools/places.py COMMIT [POINT]
 
-With a point, from 1 to 8, each place is listed.
+With a point, from 1 to 7, each place is listed.
 """
 import collections
 import re

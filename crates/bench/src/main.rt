@@ -17,6 +17,7 @@ fn measured<F: FnMut() -> usize>(rt: &HostRuntime, what: &str, mut job: F) -> io
 {
     let mut sum = 0usize;
     let start = Instant::now(rt)?;
+    // Nothing is counted but the rounds.
     for _ in 0..ROUNDS {
         sum = sum.saturating_add(job());
     }

@@ -23,7 +23,7 @@ fn total(inputs: [i32; 4]) -> i64
     pair(a, b) + pair(c, d)
 }
 
-// A number held to 32 bits.
+// A number held to 32 bits; that the cast fits is proved.
 fn held(n: i64) -> i32
     ensures { result ≡ saturate_to_bits 31 n }
 {

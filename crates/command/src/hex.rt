@@ -12,7 +12,7 @@ fn digit(letter: u8) -> Option<u32>
     char::from(letter).to_digit(16)
 }
 
-// The byte of two digits, the larger part first.
+// The byte of two digits, the larger part first; that it fits is proved.
 fn pair(high: u8, low: u8) -> Option<u8>
     ensures { result ≡ pair_value high low }
 {
@@ -28,6 +28,7 @@ pub(crate) fn bytes_of(heap: Global, text: &str) -> Result<Vec<u8>, Misuse>
     for [high, low] in pairs {
         out.push(pair(*high, *low).ok_or(Misuse::Hex)?)?;
     }
+    // A digit too many is refused last, so that memory that runs out before it is told first.
     if odd.is_empty() {
         Ok(out)
     } else {

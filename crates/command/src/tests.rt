@@ -44,6 +44,7 @@ fn holds(rt: &impl Abort, heap: Global, cases: &str) -> Result<(), Fail> {
     Ok(())
 }
 
+// One test for what is taken and one for what is refused.
 #[test]
 fn taken(rt: HostRuntime) -> Result<(), Fail> {
     holds(&rt, rt.alloc(), TAKEN)

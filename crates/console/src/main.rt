@@ -32,6 +32,7 @@ fn from_file(rt: &HostRuntime, session: &mut Session, name: &str) -> io::Result<
 fn main(rt: HostRuntime) -> io::Result<()> {
     let mut session = Session::new(rt.alloc());
     let mut names = env::args(&rt)?.skip(1).peekable();
+    // No file is named.
     if names.peek().is_none() {
         return from_input(&rt, &mut session);
     }

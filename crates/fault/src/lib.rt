@@ -58,7 +58,7 @@ pub enum Fault {
     NothingThere,
 }
 
-// What is told of a refusal to whoever called: the part, the number, and the value with it.
+// What is told of a refusal to whoever called: the part, the number, and the value with it. Within the product a refusal is its `Fault`.
 #[derive(Clone, Copy, PartialEq, Eq, Debug)]
 pub struct Refusal {
     pub part: Part,
@@ -78,7 +78,7 @@ impl Rule {
         Rule::Writers,
     ];
 
-    // The rule's number.
+    // The rule's number: a match, so that what is promised stands beside each rule.
     pub fn number(self) -> u8
         ensures { result ≡ number self }
     {

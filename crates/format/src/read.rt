@@ -16,7 +16,7 @@ pub fn number(byte: u8) -> Option<u8>
     (byte != 255).then_some(byte)
 }
 
-// What a communicator is for, by its byte; a From may stand only in the crate of the type.
+// What a communicator is for, by its byte; a From may stand only in the crate of the type, and the bytes are this crate's alone.
 pub fn use_of(byte: u8) -> Use
     ensures { result ≡ use_of byte }
 {
@@ -28,7 +28,7 @@ pub fn use_of(byte: u8) -> Use
     }
 }
 
-// A task's form, by its byte; a From may stand only in the crate of the type.
+// A task's form, by its byte; a From may stand only in the crate of the type, and the bytes are this crate's alone.
 pub fn form_of(byte: u8) -> Form
     ensures { result ≡ form_of byte }
 {

@@ -42,6 +42,7 @@ pub fn size(kind: Kind) -> usize
     }
 }
 
+// Three conversions by name: a From may stand only in the crate of the type, and the bytes are this crate's alone.
 fn number_byte(number: Option<u8>) -> u8
     ensures { result ≡ byte_or_none number }
 {

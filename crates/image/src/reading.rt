@@ -85,6 +85,7 @@ fn decode(cells: &[[u8; 6]]) -> Result<CodeStore, Fault>
     if len > MOST_INSTRUCTIONS || !ends(cells) {
         return Err(Fault::BadCode { place: 0 });
     }
+    // A code is filled as a plain array and then written whole into its store.
     let mut code = [Instruction::Return; MOST_INSTRUCTIONS];
     for (place, cell) in cells.iter().enumerate() {
         code[place] = instruction(cell, len).ok_or(Fault::BadCode { place })?;

@@ -39,7 +39,7 @@ fn head(count: usize) -> [u8; 4]
 }
 
 // Puts the cells of a code into a buffer, after the first four bytes.
-// By place, since a proof does not see what is written through chunks_exact_mut.
+// By place, since a proof does not see what is written through chunks of a slice.
 fn put_cells(buffer: &mut [u8], code: &[Instruction])
     requires { image_length (length code.now) ≤ length buffer.old }
     ensures { buffer.new ≡ (take 4 buffer.old ++ flat_map cell (map word_of code.now)) ++ drop (image_length (length code.now)) buffer.old }

@@ -5,6 +5,8 @@ ghost use Rattle.levels.specs.Levels.{meets, meets_module};
 
 use tables::*;
 
+// The three calls take what the public one takes: a struct would be made for it alone. They are loops and not `any`, since nothing is known of a closure in a cycle of calls.
+
 // The walk down the program of an owner meets a module.
 #[cycle(walk_down)]
 pub fn program_meets(tables: &Tables, target: usize, levels: u8, owner: Option<u8>) -> bool

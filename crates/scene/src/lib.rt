@@ -9,7 +9,7 @@ pub enum Stage {
     Out,
 }
 
-// What is kept of a task: its stage, its end and its ports.
+// What is kept of a task: its stage, its end and its ports, four inputs and four outputs.
 #[derive(Clone, Copy, PartialEq, Eq, Debug)]
 pub struct Job {
     pub stage: Stage,

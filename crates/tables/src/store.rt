@@ -98,7 +98,7 @@ impl Tables {
             + self.switches.len()
     }
 
-    // Kind and number within the kind of the record that has a number over all kinds.
+    // Kind and number within the kind of the record that has a number over all kinds: a step for each list, where a loop would need a table of constructors.
     pub fn place(&self, number: usize) -> Place
         ensures { result ≡ place (station self.now) number }
     {

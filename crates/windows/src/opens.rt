@@ -19,7 +19,8 @@ pub fn release_offset(tables: &Tables, t: usize) -> u16
         .fold(0, u16::max)
 }
 
-// The earliest of an offset and those of the writes of a task.
+// The earliest of an offset and those of the writes of a task: of other records than `release_offset`, and the other extreme.
+// This function and the next two are given the offset to begin with: where it was the result of a call, the proof of the chain stayed open.
 fn earliest_write(tables: &Tables, t: usize, from: u16) -> u16
     ensures { result ≡ fold min from (map (λ w. w.offset) (filter (λ w. w.task == t) (station tables.now).writes)) }
 {
@@ -98,6 +99,7 @@ impl Windows {
         }
     }
 
+    // A getter for each array.
     pub fn opening(&self, t: usize) -> u16
         ensures { result ≡ slice_index self.now.openings t }
     {

@@ -3,10 +3,11 @@ use crate::rows::names;
 use std::fmt;
 use tables::{Kind, Tables};
 
-// The tables whose records are counted.
+// The tables whose records are counted; they are neither compared nor shown, so it derives no more.
 #[derive(Clone, Copy)]
 pub struct Holdings<'a>(pub &'a Tables);
 
+// Eight lists of eight types.
 fn count(tables: &Tables, kind: Kind) -> usize {
     match kind {
         Kind::Communicators => tables.communicators().len(),

@@ -2,7 +2,7 @@
 use fault::{Cause, Fault, Rule};
 use std::fmt;
 
-// The fault that the line is made of.
+// The fault that the line is made of: a type of its own, since the core has no texts.
 #[derive(Clone, Copy, PartialEq, Eq, Debug)]
 pub struct Refused(pub Fault);
 

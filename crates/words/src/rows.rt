@@ -10,15 +10,15 @@ pub struct Row {
     pub record: Record,
 }
 
-// Fields in words: the types of the tables show nothing, since the core runs on a controller and has no texts.
-#[derive(Clone, Copy)]
+// Fields in words, each with words of its own: the types of the tables have no Display, since the core runs on a controller and has no texts.
+#[derive(Clone, Copy, PartialEq, Eq, Debug)]
 struct Purpose(Use);
 
-#[derive(Clone, Copy)]
+#[derive(Clone, Copy, PartialEq, Eq, Debug)]
 struct Shape(Form);
 
 // An owner or parent by the words before its number, or the words for none.
-#[derive(Clone, Copy)]
+#[derive(Clone, Copy, PartialEq, Eq, Debug)]
 struct OrNone {
     number: Option<u8>,
     before: &'static str,

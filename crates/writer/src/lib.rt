@@ -20,6 +20,7 @@ pub fn write(tables: &Tables) -> Bounded<u8, MOST_BYTES>
     ensures again { ReadAgain (station tables.now) (items result) }
 {
     let mut out = Bounded::new(0);
+    // By their numbers over all kinds, which are the order of the bytes: the records lie in eight lists of eight types.
     for record in (0..tables.count()).filter_map(|number| tables.record(number)) {
         // No record is left out: there is room for the largest tables.
         let _ = append(&mut out, record);
