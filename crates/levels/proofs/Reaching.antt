@@ -1,5 +1,5 @@
 -- The walk meets a module within n levels exactly if its level is at most n.
-use Rattle.std.proofs.Common.{◌≡◌, ℕ, zero, suc, ◌<◌, true, ◌&&◌, eqb, ◌⊎◌, length, Some, None, Option, sym, refl, ap, ◌∙◌, subst, inl, inr, arith}
+use Rattle.std.proofs.Common.{◌≡◌, ℕ, zero, suc, ◌<◌, true, ◌&&◌, eqb, ◌⊎◌, length, Some, None, Option, sym, refl, ap, ◌∙◌, subst, inl, inr}
 use Rattle.std.proofs.lemmas.Bool.{eqb-true, eq-eqb, and_parts, and_from, or_cases, or_left, or_right}
 use Rattle.tables.specs.Stations.{Station}
 use Rattle.lookups.proofs.Searching.{any_at, any_some}
@@ -14,8 +14,8 @@ pub record Named (s : Station) : Type 0 where
 -- the test of owners
 pub owner_same : (a b : Option ℕ) → same_owner a b ≡ true → a ≡ b
 owner_same None None e = refl
-owner_same None (Some y) e = absurd (let z : ◌≡◌ {A = ℕ} 0 1 = cc in omega arith)
-owner_same (Some x) None e = absurd (let z : ◌≡◌ {A = ℕ} 0 1 = cc in omega arith)
+owner_same None (Some y) e = absurd (cc)
+owner_same (Some x) None e = absurd (cc)
 owner_same (Some x) (Some y) e = ap Some (eqb-true x y e)
 
 pub same_owned : (a : Option ℕ) → same_owner a a ≡ true
@@ -60,7 +60,7 @@ met_step s i n o e =
 
 meets_never : (s : Station) (i : ℕ) (o : Option ℕ) → meets s i 0 o ≡ true → ⊥
 unfolding meets
-meets_never s i o e = let z : ◌≡◌ {A = ℕ} 0 1 = cc in omega arith
+meets_never s i o e = cc
 
 -- one level more above
 higher : (s : Station) (d : ℕ) (o : Option ℕ) → (module_at s (mode_at s d).home).owner ≡ o → (n i : ℕ) → Reach s (Some d) n i → Reach s o (suc n) i

@@ -14,7 +14,7 @@ find_none p a (suc n) e k l h =
         | inl s ↦ rw s t
         | inr o ↦ find_none p (a + 1) n (cc) k (omega arith) (omega arith)
       ]
-      | inr f ↦ absurd (let z : ◌≡◌ {A = ℕ} 0 1 = cc in omega arith)
+      | inr f ↦ absurd (cc)
     ]
 
 pub first_none_all : (p : ℕ → Bool) (n : ℕ) → first_failing p n ≡ None → (k : ℕ) → k < n → p k ≡ true
@@ -34,7 +34,7 @@ first_none_from p n h = none_found p 0 n (λ k l m. h k (omega arith))
 find_some :
     (p : ℕ → Bool) (a n k : ℕ) → find (λ k. not (p k)) (range_with_len a n) ≡ Some k
     → (a ≤ k) × (k < a + n) × (p k ≡ false) × ((j : ℕ) → a ≤ j → j < k → p j ≡ true)
-find_some p a zero k e = absurd (let z : ◌≡◌ {A = ℕ} 0 1 = cc in omega arith)
+find_some p a zero k e = absurd (cc)
 find_some p a (suc n) k e =
     elim (cases_Bool (p a)) [
       | inr f ↦ let same : a ≡ k = cc in (omega arith, omega arith, rw (← same) f, λ j l h. absurd (omega arith))
@@ -85,7 +85,7 @@ any_stop p i n e l h = sym (any_at p i n l h)
 
 pub any_some : (p : ℕ → Bool) (n : ℕ) → any p n ≡ true → (k : ℕ) × (k < n) × (p k ≡ true)
 unfolding any
-any_some p zero e = absurd (let z : ◌≡◌ {A = ℕ} 0 1 = cc in omega arith)
+any_some p zero e = absurd (cc)
 any_some p (suc n) e =
     elim (or_cases (any p n) (p n) e) [
       | inl f ↦ let q = any_some p n f in (q.0, omega (arith, q.1), q.2)

@@ -15,10 +15,10 @@ use Rattle.rules.specs.Verdicts.{record_count, Holds, answer, checked, checks, a
 -- one rule
 answer_ok : (r : Rule) (o : Option ℕ) → answer r o ≡ Ok tt → o ≡ None
 answer_ok r None e = refl
-answer_ok r (Some k) e = absurd (let z : ◌≡◌ {A = ℕ} 0 1 = cc in omega arith)
+answer_ok r (Some k) e = absurd (cc)
 
 answer_err : (r q : Rule) (k : ℕ) (o : Option ℕ) → answer r o ≡ Err (Broken q k) → (r ≡ q) × (o ≡ Some k)
-answer_err r q k None e = absurd (let z : ◌≡◌ {A = ℕ} 0 1 = cc in omega arith)
+answer_err r q k None e = absurd (cc)
 answer_err r q k (Some j) e = (cc, cc)
 
 abbrev Passes : Station → Rule → Type 0
@@ -69,11 +69,11 @@ result_cases (Err f) = inr (f, refl)
 all_ok : (s : Station) (rs : List Rule) → checks s rs ≡ Ok tt → (r : Rule) → In r rs → checked s r ≡ Ok tt
 all_ok s [] e r i = elim i [ ]
 all_ok s (q ∷ rs) e r (head _) =
-    elim (result_cases (checked s q)) [ inl a ↦ a | inr b ↦ let f = b.1 in absurd (let z : ◌≡◌ {A = ℕ} 0 1 = cc in omega arith) ]
+    elim (result_cases (checked s q)) [ inl a ↦ a | inr b ↦ let f = b.1 in absurd (cc) ]
 all_ok s (q ∷ rs) e r (tail _ _ i) =
     elim (result_cases (checked s q)) [
       | inl a ↦ all_ok s rs (cc) r i
-      | inr b ↦ let f = b.1 in absurd (let z : ◌≡◌ {A = ℕ} 0 1 = cc in omega arith)
+      | inr b ↦ let f = b.1 in absurd (cc)
     ]
 
 ok_all : (s : Station) (rs : List Rule) → ((r : Rule) → In r rs → checked s r ≡ Ok tt) → checks s rs ≡ Ok tt
@@ -93,7 +93,7 @@ not_before rs h up r e q (tail _ _ i) l = let n = ap number e in let m = up.0 q 
 err_first :
     (s : Station) (rs : List Rule) → Ascends rs → (r : Rule) (k : ℕ) → checks s rs ≡ Err (Broken r k)
     → Breaks s r k × ((q : Rule) → In q rs → number q < number r → checked s q ≡ Ok tt)
-err_first s [] up r k e = absurd (let z : ◌≡◌ {A = ℕ} 0 1 = cc in omega arith)
+err_first s [] up r k e = absurd (cc)
 err_first s (h ∷ rs) up r k e =
     elim (result_cases (checked s h)) [
       | inl a ↦ let t = err_first s rs up.1 r k (cc) in (t.0, λ q i l. earlier_in s h rs q a (λ j. t.1 q j l) i)

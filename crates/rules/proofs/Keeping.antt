@@ -37,7 +37,7 @@ all_of_7 a b c d e f g h =
 
 implied : (a b : Bool) → (not a || b) ≡ true → a ≡ true → b ≡ true
 implied true b e h = e
-implied false b e h = absurd (let z : ◌≡◌ {A = ℕ} 0 1 = cc in omega arith)
+implied false b e h = absurd (cc)
 
 apart_tells : (n : Bool) (a b c d : ℕ) → (not n || (not (eqb a b) && eqb c d)) ≡ true → n ≡ true → (a ≡ b → ⊥) × (c ≡ d)
 apart_tells n a b c d e h =
@@ -60,7 +60,7 @@ not_rivals x y a b c d e f peace =
 
 none_is : (o : Option ℕ) → is_none o ≡ true → o ≡ None
 none_is None e = refl
-none_is (Some x) e = absurd (let z : ◌≡◌ {A = ℕ} 0 1 = cc in omega arith)
+none_is (Some x) e = absurd (cc)
 
 -- the write that stands where there is none
 abbrev blank : Write
@@ -119,7 +119,7 @@ module _ (s : Station) (k : Keeps s) where
       × (writes_within s t p ≡ true) × (depends_within s t p ≡ true) × (apart_from_siblings s t p ≡ true)
 
   refined : (t o : ℕ) (parent : Option ℕ) → refines s t o parent ≡ true → (p : ℕ) × (parent ≡ Some p) × Refined t o p
-  refined t o None e = absurd (let z : ◌≡◌ {A = ℕ} 0 1 = cc in omega arith)
+  refined t o None e = absurd (cc)
   refined t o (Some p) e = (
     p,
     refl,

@@ -32,7 +32,7 @@ owner_cases None = inl refl
 owner_cases (Some x) = inr (x, refl)
 
 pub never : (o : Option ℕ) (x : ℕ) → o ≡ None → o ≡ Some x → ⊥
-never o x e f = let z : ◌≡◌ {A = ℕ} 0 1 = cc in omega arith
+never o x e f = cc
 
 pub same_number : (o : Option ℕ) (x y : ℕ) → o ≡ Some x → o ≡ Some y → x ≡ y
 same_number o x y e f = cc
@@ -145,7 +145,7 @@ module _ (s : Station) (f : Family s) (active : ℕ → Option ℕ) (conf : Conf
   concrete_same i j a w e =
       elim (above_abstract i j a w) [
         | inl m ↦ m
-        | inr b ↦ absurd (let z : ◌≡◌ {A = ℕ} 0 1 = cc in omega arith)
+        | inr b ↦ absurd (cc)
       ]
 
   pub one_writer : (i j : ℕ) → Writer i → Writer j → is_abstract (task_at s i).form ≡ false → is_abstract (task_at s j).form ≡ false → i ≡ j

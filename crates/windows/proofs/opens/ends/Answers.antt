@@ -18,9 +18,3 @@ loop-t-preserved c =
     let next : length s.tasks - t + 1 ≡ length s.tasks - (t - 1) = omega arith in
     let filled = ends_more s c.loop-t.known (length s.tasks - t) (t - 1) c.earliest_end.result c.loop-t.invariant (omega arith) (search rules) in
     (filled.0 ∙ ap (ends_to s) next, filled.1)
-
-pub returns : goal.returns
-returns c =
-    let s = station c.args.tables.now in
-    let all : length s.tasks - c.loop-t.t ≡ length s.tasks = omega arith in
-    c.loop-t.invariant.0 ∙ ap (ends_to s) all
