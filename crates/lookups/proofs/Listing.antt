@@ -2,7 +2,7 @@
 use Rattle.std.proofs.Common.{◌≡◌, ℕ, zero, suc, ◌<◌, min, max, Bool, true, false, cond, ◌||◌, List, [], ◌∷◌, map, length, get_or, filter, fold, refl, sym, ap, ◌∙◌, arith}
 use Rattle.std.proofs.lemmas.Bool.{and_parts}
 use Rattle.std.specs.List.{list_any, list_all}
-use Rattle.lookups.proofs.Searching.{any_at, any_some}
+use Rattle.lookups.proofs.Searching.{any_some}
 use Rattle.lookups.specs.Searches.{any, largest, smallest}
 
 -- the first number apart from the others
@@ -35,9 +35,6 @@ any_list p d (x ∷ xs) = ap (λ b. p x || b) (any_list p d xs) ∙ sym (any_fir
 -- an item of a list that passes, by its number
 pub any_found : {T : Type 0} (p : T → Bool) (d : T) (xs : List T) → list_any p xs ≡ true → (k : ℕ) × (k < length xs) × (p (get_or xs k d) ≡ true)
 any_found p d xs e = any_some (λ j. p (get_or xs j d)) (length xs) (sym (any_list p d xs) ∙ e)
-
-pub any_there : {T : Type 0} (p : T → Bool) (d : T) (xs : List T) (k : ℕ) → k < length xs → p (get_or xs k d) ≡ true → list_any p xs ≡ true
-any_there p d xs k l e = any_list p d xs ∙ any_at (λ j. p (get_or xs j d)) k (length xs) l e
 
 -- all items of a list pass
 pub all_at : {T : Type 0} (p : T → Bool) (d : T) (xs : List T) → list_all p xs ≡ true → (k : ℕ) → k < length xs → p (get_or xs k d) ≡ true

@@ -3,6 +3,7 @@ use Rattle.std.proofs.Common.{◌≡◌, ℕ, ◌<◌, Bool, true, false, not, �
 use Rattle.fault.specs.declared.Rule.TheVariants.{Fields, Hierarchy, Timing, Feeding, Window, Refinement, Writers}
 use Rattle.std.proofs.lemmas.Bool.{ltb-true, eqb-true, eq-eqb, and_parts, and_from, or_left, or_right, cases_Bool, not-true, both_ways}
 use Rattle.std.proofs.lemmas.Bool.Decides.{nat_tests}
+use Rattle.std.proofs.lemmas.List.Folds.{list_any_at}
 use Rattle.tables.specs.Stations.{Station, Few}
 use Rattle.tables.specs.declared.records.Kind.TheVariants.{Tasks}
 use Rattle.tables.specs.declared.records.Place.TheVariants.{Module, Mode, Task, Dependency}
@@ -10,7 +11,7 @@ use Rattle.levels.proofs.Meeting.{reached_once}
 use Rattle.rules.proofs.Places.{kept_at}
 use Rattle.rules.proofs.Racing.{Family, races_none, owner_cases, never, same_number}
 use Rattle.levels.proofs.Reaching.{Named, met_reaches}
-use Rattle.lookups.proofs.Listing.{any_found, any_there, all_at}
+use Rattle.lookups.proofs.Listing.{any_found, all_at}
 use Rattle.lookups.proofs.Searching.{every_all}
 use Rattle.tables.specs.declared.records.Write.{Write}
 use Rattle.windows.proofs.Windowing.{Ascend, opening_is, end_is}
@@ -173,9 +174,9 @@ module _ (s : Station) (k : Keeps s) where
       let low : ltb (write_at s i).task u ≡ true = ap (λ y. ltb y u) ti ∙ below_ltb t u l in
       let rival : rivals s (write_at s i).task u ≡ true = ap (λ y. rivals s y u) ti ∙ r in
       let contest : contested s u c ≡ true =
-      any_there (λ y. eqb y.communicator c && ltb y.task u && rivals s y.task u) blank s.writes i wt.1
+      list_any_at (λ y. eqb y.communicator c && ltb y.task u && rivals s y.task u) s.writes i blank wt.1
       (and_from (eqb (write_at s i).communicator c && ltb (write_at s i).task u) (rivals s (write_at s i).task u) (and_from (eqb (write_at s i).communicator c) (ltb (write_at s i).task u) a.1 low) rival) in
-      any_there (λ y. eqb y.task u && contested s u y.communicator) blank s.writes j wu.1
+      list_any_at (λ y. eqb y.task u && contested s u y.communicator) s.writes j blank wu.1
       (and_from (eqb (write_at s j).task u) (contested s u (write_at s j).communicator) b.0 (ap (contested s u) cj ∙ contest))
 
   no_clash : (u : ℕ) → u < length s.tasks → clashes s u ≡ false

@@ -1,6 +1,7 @@
 -- Numbers over all kinds and places are two ways to name one record.
 use Rattle.std.proofs.Common.{◌≡◌, ℕ, zero, suc, ◌+◌, ◌-◌, ◌<◌, ◌≤◌, cond, List, [], ◌∷◌, ◌++◌, map, length, Option, sym, refl, ap, ◌∙◌, inl, inr, arith}
 use Rattle.std.proofs.lemmas.List.{length-append, length-map}
+use Rattle.std.proofs.lemmas.Option.{slice_get-map}
 use Rattle.std.proofs.lemmas.Bool.Decides.{leb_tells}
 use Rattle.std.specs.List.{slice_get}
 use Rattle.std.specs.Option.{option_map}
@@ -10,12 +11,6 @@ use Rattle.tables.specs.declared.records.Record.{Record}
 use Rattle.tables.specs.declared.records.Record.TheVariants as some
 use Rattle.tables.specs.Stations.{Station, rows}
 use Rattle.tables.specs.Places.{split, place, record_at}
-
--- the item of a number of a list that is mapped
-pub nth_map : {X Y : Type 0} (f : X → Y) (xs : List X) (k : ℕ) → slice_get (map f xs) k ≡ option_map f (slice_get xs k)
-nth_map f [] k = refl
-nth_map f (x ∷ xs) zero = refl
-nth_map f (x ∷ xs) (suc k) = nth_map f xs k
 
 -- the item of a number of one list after another
 pub nth_front : {X : Type 0} (xs ys : List X) (k : ℕ) → k < length xs → slice_get (xs ++ ys) k ≡ slice_get xs k
@@ -37,7 +32,7 @@ split_law g f here later xs ys p q k =
     elim (leb_tells (suc k) (length xs)) [
       | inl h ↦
           let low : k < length (map f xs) = omega (arith, h.1) in
-          nth_front (map f xs) ys k low ∙ nth_map f xs k ∙ p k ∙ sym (ap (λ b. g (cond b (here k) (later (k - length xs)))) h.0)
+          nth_front (map f xs) ys k low ∙ slice_get-map f xs k ∙ p k ∙ sym (ap (λ b. g (cond b (here k) (later (k - length xs)))) h.0)
       | inr h ↦
           let high : length (map f xs) ≤ k = omega (arith, h.1) in
           nth_back (map f xs) ys k high ∙ ap (λ n. slice_get ys (k - n)) count ∙ q (k - length xs) ∙ sym (ap (λ b. g (cond b (here k) (later (k - length xs)))) h.0)
@@ -54,7 +49,7 @@ record_placed s k =
     (split_law g some.Read Read _ s.reads _ (λ i. refl)
     (split_law g some.Write Write _ s.writes _ (λ i. refl)
     (split_law g some.Dependency Dependency Switch s.dependencies _ (λ i. refl)
-    (nth_map some.Switch s.switches))))))) k)
+    (slice_get-map some.Switch s.switches))))))) k)
 
 -- as many as there are of the kinds together
 pub length_rows :

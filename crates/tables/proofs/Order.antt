@@ -1,6 +1,6 @@
 -- Records that come in the order of their kinds stand in that order.
-use Rattle.std.proofs.Common.{◌≡◌, ◌<◌, ◌≤◌, List, [], ◌∷◌, ◌++◌, map, length, sym, refl, ap, ◌∙◌, arith}
-use Rattle.std.proofs.lemmas.List.{append_assoc, append-nil, map_push}
+use Rattle.std.proofs.Common.{◌≡◌, ◌<◌, ◌≤◌, List, [], ◌∷◌, ◌++◌, map, length, sym, ap, ◌∙◌, arith}
+use Rattle.std.proofs.lemmas.List.{append_assoc, append-nil, map_push, nil_from_length}
 use Rattle.tables.specs.declared.records.Kind.{Kind}
 use Rattle.tables.specs.declared.records.Kind.TheVariants.{Modules, Modes, Tasks, Reads, Writes, Dependencies, Switches}
 use Rattle.tables.specs.declared.records.Record.{Record}
@@ -25,12 +25,10 @@ up_to_with l s r none h k later = count_other s r k later ∙ none k (omega arit
 
 -- lists without items
 pub none_mapped : {X : Type 0} (f : X → Record) (xs : List X) (ys : List Record) → length xs ≡ 0 → ys ≡ [] → map f xs ++ ys ≡ []
-none_mapped f [] ys h e = e
-none_mapped f (x ∷ xs) ys h e = absurd (omega arith)
+none_mapped f xs ys h e = ap (λ l. map f l ++ ys) (nil_from_length xs h) ∙ e
 
 last_none : {X : Type 0} (f : X → Record) (xs : List X) → length xs ≡ 0 → map f xs ≡ []
-last_none f [] h = refl
-last_none f (x ∷ xs) h = absurd (omega arith)
+last_none f xs h = ap (map f) (nil_from_length xs h)
 
 -- one more at the end of what is followed by nothing
 pub push_last : {X : Type 0} (f : X → Record) (xs : List X) (x : X) (ys : List Record) → ys ≡ [] → map f (xs ++ x ∷ []) ++ ys ≡ (map f xs ++ ys) ++ f x ∷ []
