@@ -48,7 +48,7 @@ fn depends_on_parent(tables: &Tables, p: u8, parent: Option<u8>) -> bool
     parent.is_some_and(|q| depends_on(tables, p, q))
 }
 
-// A task that refines another, in the tables of both.
+// A task that refines another, in the tables of both; these have neither equality nor a printed form, so it derives no more.
 #[derive(Clone, Copy)]
 struct Refinement<'a> {
     tables: &'a Tables,
