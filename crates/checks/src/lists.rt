@@ -26,3 +26,14 @@ fn takes_a_slice_whole_or_not_at_all(rt: HostRuntime) {
     assert!(rt; list.extend_from_slice(&[]).is_ok());
     assert_eq!(rt; list.get(2), Some(5));
 }
+
+#[test]
+fn takes_the_first_of_an_array(rt: HostRuntime) {
+    let list: Option<Bounded<u8, 2>> = Bounded::from_array_len([7, 8], 1).ok();
+    assert_eq!(rt; list.as_ref().and_then(|list| list.get(0)), Some(7));
+    assert_eq!(rt; list.as_ref().and_then(|list| list.get(1)), None);
+    let whole: Option<Bounded<u8, 2>> = Bounded::from_array_len([7, 8], 2).ok();
+    assert_eq!(rt; whole.and_then(|list| list.get(1)), Some(8));
+    let more: Option<Bounded<u8, 2>> = Bounded::from_array_len([7, 8], 3).ok();
+    assert!(rt; more.is_none());
+}

@@ -72,6 +72,13 @@ sound_goes_on xs k s e =
       | inr h ↦ absurd (false≢true (sym e ∙ ap (λ x. is_end (word_of x).opcode) (get_or_past xs k Return h)))
     ]
 
+-- a code that breaks a rule is not sound
+pub broken_unsound : (n : ℕ) (xs : List Instruction) (p : ℕ) → length xs ≡ n → broken n (map word_of xs) ≡ Some p → Decides false (Sound n xs)
+broken_unsound n xs p w e = (
+  (λ t. absurd (false≢true t)),
+  (λ s. absurd (let none = unbroken_sound n xs w s in cc)),
+)
+
 -- a code with a bad instruction is not sound
 pub bad_unsound : (xs : List Instruction) (k : ℕ) → Some k ≡ position_from (λ w. not (legal (length xs) w)) 0 (map word_of xs) → Decides false (Sound (length xs) xs)
 bad_unsound xs k e = (
