@@ -17,4 +17,4 @@ pub returns-clause-sound : goal.returns-clause-sound
 returns-clause-sound c =
     let count : length (take c.args.len c.args.code) ≡ c.args.len = length-take-le c.args.len c.args.code (omega arith) in
     let good : broken c.args.len (map word_of (take c.args.len c.args.code)) ≡ None = ap (λ n. broken n (map word_of (take c.args.len c.args.code))) (sym count) ∙ c.in_ok-unbroken.ensures in
-    ((λ _. sound_unbroken c.args.len (take c.args.len c.args.code) count good), (λ _. refl))
+    ((λ _. sound_unbroken c.args.len (take c.args.len c.args.code) (λ _. count) good), (λ _. refl))

@@ -9,4 +9,4 @@ returns-in_err-unbroken-clause-sound c =
     subst (λ b. Decides b (Sound (length c.args.code.now) c.args.code.now)) (sym refused) (broken_unsound (length c.args.code.now) c.args.code.now c.in_err-unbroken.ensures.0 refl c.in_err-unbroken.ensures.1)
 
 pub returns-clause-sound : goal.returns-clause-sound
-returns-clause-sound c = ((λ _. sound_unbroken (length c.args.code.now) c.args.code.now refl c.in_ok-unbroken.ensures), (λ _. refl))
+returns-clause-sound c = ((λ _. sound_unbroken (length c.args.code.now) c.args.code.now (λ _. refl) c.in_ok-unbroken.ensures), (λ _. refl))
