@@ -29,11 +29,12 @@ fn takes_a_slice_whole_or_not_at_all(rt: HostRuntime) {
 
 #[test]
 fn takes_the_first_of_an_array(rt: HostRuntime) {
-    let list: Option<Bounded<u8, 2>> = Bounded::from_array_len([7, 8], 1).ok();
-    assert_eq!(rt; list.as_ref().and_then(|list| list.get(0)), Some(7));
-    assert_eq!(rt; list.as_ref().and_then(|list| list.get(1)), None);
-    let whole: Option<Bounded<u8, 2>> = Bounded::from_array_len([7, 8], 2).ok();
-    assert_eq!(rt; whole.and_then(|list| list.get(1)), Some(8));
-    let more: Option<Bounded<u8, 2>> = Bounded::from_array_len([7, 8], 3).ok();
-    assert!(rt; more.is_none());
+    let first: Bounded<u8, 2> = Bounded::from_array_len([7, 8], 1);
+    assert_eq!(rt; first.len(), 1);
+    assert_eq!(rt; first.get(0), Some(7));
+    let none: Bounded<u8, 2> = Bounded::from_array_len([7, 8], 0);
+    assert!(rt; none.is_empty());
+    let whole: Bounded<u8, 2> = Bounded::from_array_len([7, 8], 3);
+    assert_eq!(rt; whole.len(), 2);
+    assert_eq!(rt; whole.get(1), Some(8));
 }
