@@ -16,6 +16,17 @@ impl<T: Copy, const N: usize> Bounded<T, N> {
         }
     }
 
+    // The first `len` items of an array, or all where there are no more; the array is kept as it is.
+    #[inline(always)]
+    pub fn from_array_len(slots: [T; N], len: usize) -> Bounded<T, N>
+        ensures { items result ≡ take len slots }
+    {
+        Bounded {
+            slots,
+            len: len.min(N),
+        }
+    }
+
     // The items in order.
     pub fn as_slice(&self) -> &[T]
         ensures value { result.now ≡ items self.now }

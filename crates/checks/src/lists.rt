@@ -26,3 +26,15 @@ fn takes_a_slice_whole_or_not_at_all(rt: HostRuntime) {
     assert!(rt; list.extend_from_slice(&[]).is_ok());
     assert_eq!(rt; list.get(2), Some(5));
 }
+
+#[test]
+fn takes_the_first_of_an_array(rt: HostRuntime) {
+    let first: Bounded<u8, 2> = Bounded::from_array_len([7, 8], 1);
+    assert_eq!(rt; first.len(), 1);
+    assert_eq!(rt; first.get(0), Some(7));
+    let none: Bounded<u8, 2> = Bounded::from_array_len([7, 8], 0);
+    assert!(rt; none.is_empty());
+    let whole: Bounded<u8, 2> = Bounded::from_array_len([7, 8], 3);
+    assert_eq!(rt; whole.len(), 2);
+    assert_eq!(rt; whole.get(1), Some(8));
+}

@@ -1,5 +1,5 @@
 -- Which codes are taken.
-use Rattle.std.proofs.Common.{◌≡◌, ℕ, ◌+◌, ◌-◌, ◌<◌, Bool, true, false, cond, not, ◌&&◌, ltb, leb, List, map, length, get_or, Some, None, Decides, Option, sym, refl, ap, ◌∙◌, subst, inl, inr, arith}
+use Rattle.std.proofs.Common.{◌≡◌, ℕ, ◌+◌, ◌-◌, ◌<◌, ◌≤◌, Bool, true, false, cond, not, ◌&&◌, ltb, leb, List, map, length, get_or, Some, None, Decides, Option, sym, refl, ap, ◌∙◌, subst, inl, inr, arith}
 use Rattle.std.proofs.lemmas.List.{length-map, get_or-map, get_or_past}
 use Rattle.std.proofs.lemmas.Bool.{and_parts, and_from, ltb-true, leb-true, lt-ltb, le-leb, cond-true, not-false, cases_lt, cases_order, false≢true}
 use Rattle.std.specs.List.{position_from}
@@ -29,13 +29,14 @@ unbroken_parts n ws e = parts (closed n ws) (position_from (λ w. not (legal n w
     parts false o e = absurd cc
 
 -- a code that breaks no rule is sound
-pub sound_unbroken : (n : ℕ) (xs : List Instruction) → length xs ≡ n → broken n (map word_of xs) ≡ None → Sound n xs
+pub sound_unbroken : (n : ℕ) (xs : List Instruction) → (n ≤ 4096 → length xs ≡ n) → broken n (map word_of xs) ≡ None → Sound n xs
 sound_unbroken n xs w e =
     let p = unbroken_parts n (map word_of xs) e in
     let q = and_parts (ltb 0 n && leb n 4096) _ p.0 in
     let s = and_parts (ltb 0 n) _ q.0 in
     let some : 0 < n = ltb-true 0 n s.0 in
-    let count : length (map word_of xs) ≡ n = length-map xs word_of ∙ w in
+    let whole : length xs ≡ n = w (leb-true n 4096 s.1) in
+    let count : length (map word_of xs) ≡ n = length-map xs word_of ∙ whole in
     let low : n - 1 < length xs = omega arith in (
       some,
       leb-true n 4096 s.1,
@@ -72,6 +73,13 @@ sound_goes_on xs k s e =
       | inr h ↦ absurd (false≢true (sym e ∙ ap (λ x. is_end (word_of x).opcode) (get_or_past xs k Return h)))
     ]
 
+-- a code that breaks a rule is not sound
+pub broken_unsound : (n : ℕ) (xs : List Instruction) (p : ℕ) → length xs ≡ n → broken n (map word_of xs) ≡ Some p → Decides false (Sound n xs)
+broken_unsound n xs p w e = (
+  (λ t. absurd (false≢true t)),
+  (λ s. absurd (let none = unbroken_sound n xs w s in cc)),
+)
+
 -- a code with a bad instruction is not sound
 pub bad_unsound : (xs : List Instruction) (k : ℕ) → Some k ≡ position_from (λ w. not (legal (length xs) w)) 0 (map word_of xs) → Decides false (Sound (length xs) xs)
 bad_unsound xs k e = (
@@ -81,4 +89,4 @@ bad_unsound xs k e = (
 
 -- what a store holds is sound
 pub store_sound : (s : CodeStore) → Sound (length (instructions s)) (instructions s)
-store_sound s = sound_unbroken (length (instructions s)) (instructions s) refl s.unbroken
+store_sound s = sound_unbroken (length (instructions s)) (instructions s) (λ _. refl) s.unbroken

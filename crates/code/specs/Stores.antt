@@ -1,5 +1,5 @@
 -- What a code store holds, and which codes are taken.
-use Rattle.std.specs.Prelude.{ℕ, List, map, Some, None, Ok, Err, Option, Result}
+use Rattle.std.specs.Prelude.{◌≡◌, ℕ, List, length, map, Some, None, Ok, Err, Option, Result}
 use Rattle.bounded.specs.Items.{items}
 use Rattle.fault.specs.declared.Fault.{Fault}
 use Rattle.fault.specs.declared.Fault.TheVariants.{BadCode}
@@ -25,3 +25,11 @@ stored n xs = verdict (broken n (map word_of xs)) xs
 abbrev pub held : Result CodeStore Fault → Result (List Instruction) Fault
 held (Ok s) = Ok (instructions s)
 held (Err f) = Err f
+
+-- Instructions that break no rule.
+abbrev pub Unbroken : List Instruction → Type 0
+Unbroken xs = broken (length xs) (map word_of xs) ≡ None
+
+-- Instructions that break a rule, and the refusal that names the place.
+abbrev pub BrokenAt : List Instruction → Fault → Type 0
+BrokenAt xs f = (p : ℕ) × (broken (length xs) (map word_of xs) ≡ Some p) × (f ≡ BadCode p)

@@ -239,3 +239,11 @@ fn instructions(rt: HostRuntime) {
         assert_eq!(rt; made(instruction), BAD_CODE);
     }
 }
+
+#[test]
+fn registers_by_number(rt: HostRuntime) {
+    assert_eq!(rt; Register::try_from(0).ok(), Some(Register::R0));
+    assert_eq!(rt; Register::try_from(3).ok(), Some(Register::R3));
+    assert_eq!(rt; Register::try_from(4).ok(), None);
+    assert_eq!(rt; Register::try_from(65535).ok(), None);
+}

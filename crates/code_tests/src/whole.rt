@@ -1,5 +1,5 @@
 // Codes and images as a whole: lengths, ends, the order of refusals, and the buffer.
-use code::{CodeStore, Instruction};
+use code::{CodeStore, Instruction, MOST_INSTRUCTIONS};
 use fault::Fault;
 use image::{read, write};
 use std::test::Fail;
@@ -33,6 +33,49 @@ fn lengths_and_ends(rt: HostRuntime) {
         Some(Fault::BadCode { place: 1 })
     );
     assert_eq!(rt; CodeStore::new(&code[..1]).err(), None);
+}
+
+// The first `len` of an array of returns.
+fn returns(len: usize) -> Result<CodeStore, Fault> {
+    CodeStore::from_array_len([Instruction::Return; MOST_INSTRUCTIONS], len)
+}
+
+#[test]
+fn lengths_and_ends_within_an_array(rt: HostRuntime) {
+    assert_eq!(rt; returns(0).err(), Some(Fault::BadCode { place: 0 }));
+    assert_eq!(rt; returns(1).err(), None);
+    assert_eq!(rt; returns(4096).err(), None);
+    assert_eq!(rt; returns(4097).err(), Some(Fault::BadCode { place: 0 }));
+    assert_eq!(rt;
+        returns(usize::MAX).err(),
+        Some(Fault::BadCode { place: 0 })
+    );
+    let mut code = [Instruction::Return; MOST_INSTRUCTIONS];
+    code[1] = Instruction::Write { line: 128 };
+    code[2] = Instruction::Call { address: 0 };
+    assert_eq!(rt;
+        CodeStore::from_array_len(code, 3).err(),
+        Some(Fault::BadCode { place: 0 })
+    );
+    code[2] = Instruction::Jump { address: 9 };
+    assert_eq!(rt;
+        CodeStore::from_array_len(code, 3).err(),
+        Some(Fault::BadCode { place: 1 })
+    );
+    assert_eq!(rt; CodeStore::from_array_len(code, 1).err(), None);
+}
+
+#[test]
+fn the_rest_of_an_array_is_never_seen(rt: HostRuntime) -> Result<(), Fail> {
+    let mut code = [Instruction::Return; MOST_INSTRUCTIONS];
+    code[0] = Instruction::Jump { address: 0 };
+    code[1] = Instruction::Jump { address: 0 };
+    let store = CodeStore::from_array_len(code, 1)?;
+    assert_eq!(rt; store.len(), 1);
+    assert_eq!(rt; store.fetch(0), Instruction::Jump { address: 0 });
+    assert_eq!(rt; store.fetch(1), Instruction::Return);
+    assert_eq!(rt; store.fetch(65535), Instruction::Return);
+    Ok(())
 }
 
 #[test]

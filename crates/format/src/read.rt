@@ -43,10 +43,11 @@ pub fn form_of(byte: u8) -> Form
 fn kind_of(bytes: &[u8]) -> Option<Kind>
     ensures { result ≡ find (marked bytes.now) kinds }
 {
+    let letters = *bytes.first_chunk::<2>()?;
     Kind::ALL
         .iter()
         .copied()
-        .find(|kind| bytes.starts_with(&mark(*kind)))
+        .find(|kind| mark(*kind) == letters)
 }
 
 // A record of a kind, by the bytes that its mark begins.

@@ -26,7 +26,7 @@ use Rattle.image.specs.Marks.{mark_of, opcodes, found}
 use Rattle.image.specs.Promises.{ReadBack, WrittenBack, OneCode, OneImage}
 use Rattle.image.proofs.Finding.{found_mark, mark_two, mark_found}
 use Rattle.image.proofs.Placing.{cells_length}
-use Rattle.image.proofs.Cutting.{words_length, all_known}
+use Rattle.image.proofs.Cutting.{words_length, all_known, some_known, known_some}
 
 -- the half-word of a half-word's bytes
 pub half_back : (v : ℕ) → value (v / 256) (v % 256) ≡ v
@@ -66,14 +66,6 @@ cells_read n k [] e = refl
 cells_read n k (w ∷ ws) e =
     let p = none_passed (not (legal n w)) (position_from (λ v. not (legal n v)) (k + 1) ws) k e in
     cell_read w (flat_map cell ws) (legal_padded n w (not-false _ p.0)) ∙ ap (λ os. Some w ∷ os) (cells_read n (k + 1) ws p.1)
-
-some_known : (k : ℕ) (ws : List Word) → position_from is_none k (map Some ws) ≡ None
-some_known k [] = refl
-some_known k (w ∷ ws) = some_known (k + 1) ws
-
-known_some : (ws : List Word) → known (map Some ws) ≡ ws
-known_some [] = refl
-known_some (w ∷ ws) = ap (λ vs. w ∷ vs) (known_some ws)
 
 -- the head of an image is right
 image_headed : (xs : List Instruction) → headed (image_of xs) ≡ true

@@ -36,6 +36,16 @@ all_known k [] e = refl
 all_known k (None ∷ os) e = absurd cc
 all_known k (Some w ∷ os) e = ap (λ ps. Some w ∷ ps) (all_known (k + 1) os e)
 
+-- where all are words, none is none
+pub some_known : (k : ℕ) (ws : List Word) → position_from is_none k (map Some ws) ≡ None
+some_known k [] = refl
+some_known k (w ∷ ws) = some_known (k + 1) ws
+
+-- and all are known
+pub known_some : (ws : List Word) → known (map Some ws) ≡ ws
+known_some [] = refl
+known_some (w ∷ ws) = ap (λ vs. w ∷ vs) (known_some ws)
+
 -- as many words as cells
 pub as_many : (cs : List (List ℕ)) (ws : List Word) → map word_of_cell cs ≡ map Some ws → length cs ≡ length ws
 as_many cs ws e = sym (length-map cs word_of_cell) ∙ ap length e ∙ length-map ws Some

@@ -1,11 +1,10 @@
 -- The six bytes of an instruction: its mark and two half-words.
-use Rattle.std.specs.Prelude.{ℕ, ◌+◌, ◌-◌, ◌*◌, ◌/◌, ◌%◌, Bool, true, false, cond, ◌&&◌, List, [], ◌∷◌, ◌++◌, length, Some, None, Option, ◌==◌, slice_get, slice_index, option_and_then}
-use Rattle.std.specs.Option.{option_map_or}
+use Rattle.std.specs.Prelude.{ℕ, ◌+◌, ◌*◌, ◌/◌, ◌%◌, Bool, true, cond, ◌&&◌, List, [], ◌∷◌, ◌++◌, Some, None, Option, ◌==◌, slice_index}
 use Rattle.code.specs.declared.instructions.Opcode.{Opcode}
 use Rattle.code.specs.declared.instructions.Operand.{Operand}
 use Rattle.code.specs.declared.instructions.Operand.TheVariants.{Unused}
 use Rattle.code.specs.declared.instructions.Word.{Word}
-use Rattle.code.specs.Opcodes.{operands_of, is_end}
+use Rattle.code.specs.Opcodes.{operands_of}
 use Rattle.code.specs.Words.{made_of}
 use Rattle.image.specs.Marks.{mark_of, opcodes, found}
 
@@ -52,7 +51,3 @@ words_in (m ∷ n ∷ []) = []
 words_in (m ∷ n ∷ a ∷ []) = []
 words_in (m ∷ n ∷ a ∷ b ∷ []) = []
 words_in (m ∷ n ∷ a ∷ b ∷ c ∷ []) = []
-
--- Whether the last of some cells is a word that may end a code.
-abbrev pub ended : List (List ℕ) → Bool
-ended cs = option_map_or (λ w. is_end w.opcode) (option_and_then word_of_cell (slice_get cs (length cs - 1))) false

@@ -1,10 +1,12 @@
 -- The image of a code: the letters HE, the count, and six bytes for each instruction.
-use Rattle.std.specs.Prelude.{ℕ, ◌+◌, ◌*◌, Bool, cond, ◌&&◌, List, ◌++◌, map, length, drop, is_none, Some, None, Ok, Err, codes, Option, Result, ◌==◌, nat_le, slice_index}
+use Rattle.std.specs.Prelude.{ℕ, ◌+◌, ◌-◌, ◌*◌, Bool, false, cond, ◌&&◌, List, ◌++◌, map, length, drop, is_none, Some, None, Ok, Err, codes, Option, Result, ◌==◌, nat_le, slice_get, slice_index}
+use Rattle.std.specs.Option.{option_map_or}
 use Rattle.std.specs.List.{filter_map, flat_map, position_from}
 use Rattle.fault.specs.declared.Fault.{Fault}
 use Rattle.fault.specs.declared.Fault.TheVariants.{NoImage, ShortBuffer}
 use Rattle.code.specs.declared.instructions.Instruction.{Instruction}
 use Rattle.code.specs.declared.instructions.Word.{Word}
+use Rattle.code.specs.Opcodes.{is_end}
 use Rattle.code.specs.Rules.{broken}
 use Rattle.code.specs.Stores.{verdict}
 use Rattle.code.specs.Words.{word_of, instruction_of}
@@ -40,6 +42,10 @@ headed bs = (slice_index bs 0 == slice_index (codes "HE") 0 && slice_index bs 1 
 -- The words that there are.
 abbrev pub known : List (Option Word) → List Word
 known os = filter_map (λ o. o) os
+
+-- Whether the last of some words may end a code.
+abbrev pub ended : List Word → Bool
+ended ws = option_map_or (λ w. is_end w.opcode) (slice_get ws (length ws - 1)) false
 
 -- The code that words stand for, or where they break a rule.
 abbrev pub decoded : List Word → Result (List Instruction) Fault

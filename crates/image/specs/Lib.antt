@@ -1,4 +1,5 @@
 pub mod Marks
 pub mod Cells
 pub mod Images
+pub mod Parsing
 pub mod Promises

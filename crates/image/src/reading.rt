@@ -1,18 +1,17 @@
 // Reading an image.
-ghost use Rattle.std.specs.Prelude.{◌≡◌, List, map, drop, is_ok, is_none, IfOk, IfErr, if◌then◌else◌, option_and_then};
-ghost use Rattle.std.specs.List.{position_from};
-ghost use Rattle.code.specs.declared.instructions.Word.{Word};
+ghost use Rattle.std.specs.Prelude.{◌≡◌, [], map, drop, is_ok, IfOk, IfErr, MatchResult};
+ghost use Rattle.bounded.specs.Items.{items};
 ghost use Rattle.fault.specs.declared.Fault.TheVariants.{NoImage};
-ghost use Rattle.code.specs.Rules.{legal};
 ghost use Rattle.code.specs.Stores.{instructions, held};
-ghost use Rattle.code.specs.Words.{instruction_of};
-ghost use Rattle.image.specs.Cells.{ended, word_of_cell, words_in};
-ghost use Rattle.image.specs.Images.{image_of, headed, decoded, read_image};
+ghost use Rattle.image.specs.Cells.{word_of_cell, words_in};
+ghost use Rattle.image.specs.Images.{image_of, headed, ended, decoded, read_image};
+ghost use Rattle.image.specs.Parsing.{Parsed, Stopped};
 ghost use Rattle.image.specs.Promises.{WrittenBack, OneImage};
 
 use super::cells::word;
 use super::marks::HEAD;
-use code::{CodeStore, Instruction, MOST_INSTRUCTIONS};
+use bounded::Bounded;
+use code::{CodeStore, Instruction, MOST_INSTRUCTIONS, Word};
 use fault::Fault;
 
 // The code of an image; what is no image is refused first, and then what breaks a rule of the code store.
@@ -29,10 +28,13 @@ fn load(bytes: &[u8]) -> Result<CodeStore, Fault>
     ensures { held result ≡ read_image bytes.now }
 {
     let cells = cells(bytes)?;
-    match first_unknown(cells) {
-        Some(place) => Err(Fault::NoImage { place }),
-        None => decode(cells),
+    // Filled in place, since it costs to hand on so large a list.
+    let mut words = Bounded::new(Instruction::Return.word());
+    gather(cells, &mut words)?;
+    if cells.len() > MOST_INSTRUCTIONS {
+        return Err(Fault::BadCode { place: 0 });
     }
+    decode(words.as_slice())
 }
 
 // The cells of an image whose head and length are right.
@@ -51,44 +53,36 @@ fn cells(bytes: &[u8]) -> Result<&[[u8; 6]], Fault>
     Ok(cells)
 }
 
-// The place of the first cell that is no word.
-fn first_unknown(cells: &[[u8; 6]]) -> Option<usize>
-    ensures { result ≡ position_from is_none 0 (map word_of_cell cells.now) }
+// Gathers the words of cells in an empty list, or refuses the first that is none; words too many for a code store are looked at and left out.
+fn gather(cells: &[[u8; 6]], words: &mut Bounded<Word, MOST_INSTRUCTIONS>) -> Result<(), Fault>
+    requires { items words.old ≡ [] }
+    ensures { MatchResult result (λ _. Parsed (map word_of_cell cells.now) (items words.new)) (λ f. Stopped (map word_of_cell cells.now) f) }
 {
-    cells.iter().map(word).position(|word| word.is_none())
+    for (place, cell) in cells.iter().enumerate() {
+        let _ = words.push(word(cell).ok_or(Fault::NoImage { place })?);
+    }
+    Ok(())
 }
 
-// Whether the last cell is a word that may end a code.
-fn ends(cells: &[[u8; 6]]) -> bool
-    ensures { result ≡ ended cells.now }
+// Whether the last word may end a code.
+fn ends(words: &[Word]) -> bool
+    ensures { result ≡ ended words.now }
 {
-    cells
-        .last()
-        .and_then(word)
-        .is_some_and(|last| last.opcode.is_end())
+    words.last().is_some_and(|last| last.opcode.is_end())
 }
 
-// The instruction of a cell in a code of `len` instructions, or none if an operand may not stand there.
-fn instruction(cell: &[u8; 6], len: usize) -> Option<Instruction>
-    ensures { result ≡ option_and_then (λ w. if legal len w then Some (instruction_of w) else None) (word_of_cell cell.now) }
+// The code store of words. The rules are held against the words, since an operand may be too large for its type.
+fn decode(words: &[Word]) -> Result<CodeStore, Fault>
+    ensures { held result ≡ decoded words.now }
 {
-    word(cell)?.decode(len)
-}
-
-// The code store of cells that are words. The rules are held against the words, since an operand may be too large for its type.
-fn decode(cells: &[[u8; 6]]) -> Result<CodeStore, Fault>
-    ghost words: { List Word }
-    requires { map word_of_cell cells.now ≡ map Some words }
-    ensures { held result ≡ decoded words }
-{
-    let len = cells.len();
-    if len > MOST_INSTRUCTIONS || !ends(cells) {
+    let len = words.len();
+    if len > MOST_INSTRUCTIONS || !ends(words) {
         return Err(Fault::BadCode { place: 0 });
     }
     // A code is filled as a plain array and then written whole into its store.
     let mut code = [Instruction::Return; MOST_INSTRUCTIONS];
-    for (place, cell) in cells.iter().enumerate() {
-        code[place] = instruction(cell, len).ok_or(Fault::BadCode { place })?;
+    for (place, word) in words.iter().enumerate() {
+        code[place] = word.decode(len).ok_or(Fault::BadCode { place })?;
     }
-    CodeStore::new(&code[..len])
+    CodeStore::from_array_len(code, len)
 }

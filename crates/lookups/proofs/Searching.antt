@@ -1,5 +1,7 @@
 -- Searches one step on, stopped early, and what they tell.
-use Rattle.std.proofs.Common.{◌≡◌, ℕ, zero, suc, ◌+◌, ◌<◌, ◌≤◌, Bool, true, false, not, ◌||◌, Some, None, sym, refl, inl, inr, add-one, arith}
+use Rattle.std.proofs.Common.{◌≡◌, ℕ, zero, suc, ◌+◌, ◌<◌, ◌≤◌, Bool, true, false, cond, not, ◌&&◌, ◌||◌, [], ◌∷◌, ◌++◌, Some, None, sym, refl, ap, ◌∙◌, inl, inr, add-one, arith}
+use Rattle.std.proofs.lemmas.List.Folds.{find-append, list_all-append}
+use Rattle.std.specs.Option.{option_or}
 use Rattle.std.proofs.lemmas.Bool.{and_parts, or_left, or_right, or_cases, cases_Bool, cases_eq, cases_order}
 use Rattle.std.specs.List.{find, list_all, range_with_len}
 use Rattle.lookups.specs.Searches.{first_failing, any, every, largest, smallest}
@@ -118,3 +120,31 @@ smallest_same p f g a zero h = refl
 smallest_same p f g a (suc n) h =
     let rest = smallest_same p f g a n (λ j l e. h j (omega arith) e) in
     elim (cases_Bool (p n)) [ inl t ↦ let here = h n (omega arith) t in cc | inr t ↦ cc ]
+
+-- one number more in a search over the first numbers
+range_more : (a n : ℕ) → range_with_len a (suc n) ≡ range_with_len a n ++ ((a + n) ∷ [])
+range_more a zero = let none : a ≡ a + 0 = omega arith in ap (λ k. k ∷ []) none
+range_more a (suc n) = let next : (a + 1) + n ≡ a + suc n = omega arith in ap (λ ks. a ∷ ks) (range_more (a + 1) n ∙ ap (λ k. range_with_len (a + 1) n ++ (k ∷ [])) next)
+
+counted : (n : ℕ) → range_with_len 0 (suc n) ≡ range_with_len 0 n ++ (n ∷ [])
+counted n = let same : 0 + n ≡ n = omega arith in range_more 0 n ∙ ap (λ k. range_with_len 0 n ++ (k ∷ [])) same
+
+pub first_more : (p : ℕ → Bool) (n : ℕ) → first_failing p (suc n) ≡ option_or (first_failing p n) (cond (p n) None (Some n))
+first_more p n =
+    ap (find (λ k. not (p k))) (counted n)
+    ∙ find-append (λ k. not (p k)) (range_with_len 0 n) (n ∷ [])
+    ∙ ap (option_or (first_failing p n)) (here (p n))
+  where
+    here : (b : Bool) → cond (not b) (Some n) None ≡ cond b None (Some n)
+    here true = refl
+    here false = refl
+
+pub every_more : (p : ℕ → Bool) (n : ℕ) → every p (suc n) ≡ (every p n && p n)
+every_more p n =
+    ap (list_all p) (counted n)
+    ∙ list_all-append p (range_with_len 0 n) (n ∷ [])
+    ∙ ap (λ b. every p n && b) (alone (p n))
+  where
+    alone : (b : Bool) → (b && true) ≡ b
+    alone true = refl
+    alone false = refl

@@ -8,7 +8,7 @@ use tables::*;
 pub fn item<T: Copy>(all: &[T], i: usize, blank: T) -> T
     ensures { result ≡ slice_index_or all.now i blank }
 {
-    all.get(i).copied().unwrap_or(blank)
+    *all.get(i).unwrap_or(&blank)
 }
 
 // A name for each kind of record over the one generic look-up, since `mode(tables, d)` says more plainly what types and defaults would say at each use.

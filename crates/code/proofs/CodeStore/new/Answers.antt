@@ -1,13 +1,12 @@
-use Rattle.std.proofs.Common.{◌≡◌, length, map, None, refl, rules}
-use Rattle.code.specs.Rules.{broken}
-use Rattle.code.specs.Words.{word_of}
-use Rattle.code.proofs.Storing.{sound_unbroken, bad_unsound}
+use Rattle.std.proofs.Common.{◌≡◌, false, length, is_ok, Decides, sym, refl, subst, rules}
+use Rattle.code.specs.Promises.{Sound}
+use Rattle.code.proofs.Storing.{sound_unbroken, broken_unsound}
 use Rattle.code.proofs.CodeStore.new.Goals as goal
 
-pub returns-in-None-clause-sound : goal.returns-in-None-clause-sound
-returns-in-None-clause-sound c =
-    let none : broken (length c.args.code.now) (map word_of c.args.code.now) ≡ None = search rules in
-    ((λ _. sound_unbroken (length c.args.code.now) c.args.code.now refl none), (λ _. refl))
+pub returns-in_err-unbroken-clause-sound : goal.returns-in_err-unbroken-clause-sound
+returns-in_err-unbroken-clause-sound c =
+    let refused : is_ok c.from_residual.result ≡ false = search rules in
+    subst (λ b. Decides b (Sound (length c.args.code.now) c.args.code.now)) (sym refused) (broken_unsound (length c.args.code.now) c.args.code.now c.in_err-unbroken.ensures.0 refl c.in_err-unbroken.ensures.1)
 
-pub returns-in-Some-clause-sound : goal.returns-in-Some-clause-sound
-returns-in-Some-clause-sound c = bad_unsound c.args.code.now c.in-Some.place c.in-Some.ensures
+pub returns-clause-sound : goal.returns-clause-sound
+returns-clause-sound c = ((λ _. sound_unbroken (length c.args.code.now) c.args.code.now (λ _. refl) c.in_ok-unbroken.ensures), (λ _. refl))
