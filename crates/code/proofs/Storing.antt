@@ -74,10 +74,10 @@ sound_goes_on xs k s e =
     ]
 
 -- a code that breaks a rule is not sound
-pub broken_unsound : (n : ℕ) (xs : List Instruction) (p : ℕ) → length xs ≡ n → broken n (map word_of xs) ≡ Some p → Decides false (Sound n xs)
+pub broken_unsound : (n : ℕ) (xs : List Instruction) (p : ℕ) → (n ≤ 4096 → length xs ≡ n) → broken n (map word_of xs) ≡ Some p → Decides false (Sound n xs)
 broken_unsound n xs p w e = (
   (λ t. absurd (false≢true t)),
-  (λ s. absurd (let none = unbroken_sound n xs w s in cc)),
+  (λ s. absurd (let none = unbroken_sound n xs (w s.1) s in cc)),
 )
 
 -- a code with a bad instruction is not sound

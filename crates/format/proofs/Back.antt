@@ -21,11 +21,11 @@ abbrev pub Bytes : List ℕ → Type 0
 Bytes bs = (i : ℕ) → get_or bs i 0 < 256
 
 -- the first items, one by one
-take_firsts : (n : ℕ) (bs : List ℕ) → n ≤ length bs → take n bs ≡ map (λ k. get_or bs k 0) (range_with_len 0 n)
+pub take_firsts : (n : ℕ) (bs : List ℕ) → n ≤ length bs → take n bs ≡ map (λ k. get_or bs k 0) (range_with_len 0 n)
 take_firsts n bs h = fill_by_all (λ k. get_or bs k 0) (take n bs) n 0 (omega (arith, length-take n bs)) (λ k s. get_or-take n bs k 0 s)
 
 -- the two letters of a mark
-letters : (bs : List ℕ) (k : Kind) → marked bs k ≡ true → bs ≡ mark k ++ drop (length (mark k)) bs
+pub letters : (bs : List ℕ) (k : Kind) → marked bs k ≡ true → bs ≡ mark k ++ drop (length (mark k)) bs
 letters bs k m = (starts_is Decides-eqb bs (mark k) _ refl).0 m
 
 -- what was found passes
@@ -34,7 +34,7 @@ find_passes p [] x e = cc
 find_passes p (y ∷ ys) x e = grind (arith, find_passes p ys x)
 
 -- a number of four bytes has those bytes again, and fits
-word_again :
+pub word_again :
     (a b c d : ℕ) → a < 256 → b < 256 → c < 256 → d < 256
     → (word_bytes (to_z w32 (a * 16777216 + b * 65536 + c * 256 + d)) ≡ a ∷ b ∷ c ∷ d ∷ [])
     × SFits w32 (to_z w32 (a * 16777216 + b * 65536 + c * 256 + d))

@@ -16,7 +16,7 @@ pub(super) fn six_bytes(word: Word) -> [u8; 6]
 }
 
 // The word of six bytes, or none if the mark is unknown or an unused operand is not 0.
-// Inlined, since both walks over an image call it for each cell.
+// Inlined, since the walk over an image calls it for each cell.
 #[inline(always)]
 pub(super) fn word(cell: &[u8; 6]) -> Option<Word>
     ensures { result ≡ word_of_cell cell.now }

@@ -1,9 +1,11 @@
 -- A search in a list is a search over the numbers below its length.
-use Rattle.std.proofs.Common.{◌≡◌, ℕ, zero, suc, ◌<◌, min, max, Bool, true, false, cond, ◌||◌, List, [], ◌∷◌, map, length, get_or, filter, fold, refl, sym, ap, ◌∙◌, arith}
+use Rattle.std.proofs.Common.{◌≡◌, ℕ, zero, suc, ◌+◌, ◌<◌, min, max, Bool, true, false, cond, ◌&&◌, ◌||◌, List, [], ◌∷◌, map, length, get_or, filter, fold, refl, sym, ap, ◌∙◌, arith}
 use Rattle.std.proofs.lemmas.Bool.{and_parts}
-use Rattle.std.specs.List.{list_any, list_all}
+use Rattle.std.proofs.lemmas.List.FromFn.{fill_by_all}
+use Rattle.std.proofs.lemmas.List.Sums.{sum_by-cons}
+use Rattle.std.specs.List.{list_any, list_all, count_by, range_with_len}
 use Rattle.lookups.proofs.Searching.{any_some}
-use Rattle.lookups.specs.Searches.{any, largest, smallest}
+use Rattle.lookups.specs.Searches.{any, every, largest, smallest, total}
 
 -- the first number apart from the others
 any_first : (p : ℕ → Bool) (n : ℕ) → any p (suc n) ≡ (p 0 || any (λ j. p (suc j)) n)
@@ -27,10 +29,25 @@ unfolding smallest
 smallest_first p f a zero = refl
 smallest_first p f a (suc n) = ap (λ l. cond (p (suc n)) (min l (f (suc n))) l) (smallest_first p f a n)
 
+total_first : (p : ℕ → Bool) (f : ℕ → ℕ) (n : ℕ) → total p f (suc n) ≡ cond (p 0) (f 0) 0 + total (λ j. p (suc j)) (λ j. f (suc j)) n
+unfolding total
+total_first p f zero = omega arith
+total_first p f (suc n) = omega (arith, total_first p f n)
+
 pub any_list : {T : Type 0} (p : T → Bool) (d : T) (xs : List T) → list_any p xs ≡ any (λ j. p (get_or xs j d)) (length xs)
 unfolding any
 any_list p d [] = refl
 any_list p d (x ∷ xs) = ap (λ b. p x || b) (any_list p d xs) ∙ sym (any_first (λ j. p (get_or (x ∷ xs) j d)) (length xs))
+
+-- a test of what items are mapped to
+all_mapped : {X Y : Type 0} (p : Y → Bool) (f : X → Y) (xs : List X) → list_all p (map f xs) ≡ list_all (λ x. p (f x)) xs
+all_mapped p f [] = refl
+all_mapped p f (x ∷ xs) = ap (λ b. p (f x) && b) (all_mapped p f xs)
+
+pub every_list : {T : Type 0} (p : T → Bool) (d : T) (xs : List T) → list_all p xs ≡ every (λ j. p (get_or xs j d)) (length xs)
+every_list p d xs =
+    ap (list_all p) (fill_by_all (λ j. get_or xs j d) xs (length xs) d refl (λ j l. refl))
+    ∙ all_mapped p (λ j. get_or xs j d) (range_with_len 0 (length xs))
 
 -- an item of a list that passes, by its number
 pub any_found : {T : Type 0} (p : T → Bool) (d : T) (xs : List T) → list_any p xs ≡ true → (k : ℕ) × (k < length xs) × (p (get_or xs k d) ≡ true)
@@ -68,3 +85,11 @@ smallest_list p f d a (x ∷ xs) =
     filtered_step min f (p x) a x (filter p xs)
     ∙ smallest_list p f d (cond (p x) (min a (f x)) a) xs
     ∙ sym (smallest_first (λ j. p (get_or (x ∷ xs) j d)) (λ j. f (get_or (x ∷ xs) j d)) a (length xs))
+
+pub count_list : {T : Type 0} (p : T → Bool) (d : T) (xs : List T) → count_by p xs ≡ total (λ j. p (get_or xs j d)) (λ j. 1) (length xs)
+unfolding total
+count_list p d [] = refl
+count_list p d (x ∷ xs) =
+    sum_by-cons (λ y. cond (p y) 1 0) x xs
+    ∙ ap (λ n. cond (p x) 1 0 + n) (count_list p d xs)
+    ∙ sym (total_first (λ j. p (get_or (x ∷ xs) j d)) (λ j. 1) (length xs))

@@ -16,7 +16,7 @@ use Rattle.tables.specs.declared.records.Record.{Record}
 use Rattle.writer.proofs.Rebuilding.{ComesTo, rows_come}
 
 -- there are no more records than bytes
-fewer_records : (rs : List Record) → length rs ≤ length (flat_map record_bytes rs)
+pub fewer_records : (rs : List Record) → length rs ≤ length (flat_map record_bytes rs)
 fewer_records [] = omega arith
 fewer_records (r ∷ rs) =
     omega (arith, length-append (record_bytes r) (flat_map record_bytes rs), bytes_size r, size_some (kind_of r), fewer_records rs)
@@ -25,7 +25,7 @@ in_order : (at : Standing) (r : Record) → rank at.last ≤ rank (kind_of r) �
 in_order at r h = grind (arith, nat_tests)
 
 -- a walk over the bytes of records stores them all
-walk_rows :
+pub walk_rows :
     (k : ℕ) (at : Standing) (s : Station) (rs : List Record) (whole : Station)
     → at.left ≡ flat_map record_bytes rs → length rs ≤ k → AllByRecursion FitsWidths rs → AllByRecursion PlainFields rs → ComesTo at.last s rs whole
     → walked k at s ≡ Ok whole

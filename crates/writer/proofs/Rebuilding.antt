@@ -30,13 +30,13 @@ below : (m n : ℕ) → m < n → ltb m n ≡ true
 below m n h = grind (arith, nat_tests)
 
 -- the records of one kind, and the stations that they come to one by one
-record Part (X : Type 0) : Type 0 where
-  kind : Kind
-  made : X → Record
-  at : List X → Station
-  made_kind : (x : X) → kind_of (made x) ≡ kind
-  adds : (xs : List X) (x : X) → with_record (at xs) (made x) ≡ at (xs ++ x ∷ [])
-  counts : (xs : List X) → count (at xs) kind ≡ length xs
+pub record Part (X : Type 0) : Type 0 where
+  pub kind : Kind
+  pub made : X → Record
+  pub at : List X → Station
+  pub made_kind : (x : X) → kind_of (made x) ≡ kind
+  pub adds : (xs : List X) (x : X) → with_record (at xs) (made x) ≡ at (xs ++ x ∷ [])
+  pub counts : (xs : List X) → count (at xs) kind ≡ length xs
 
 -- the records of one kind and then others
 part :

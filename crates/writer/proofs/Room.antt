@@ -9,7 +9,7 @@ use Rattle.tables.specs.declared.records.Record.{Record}
 use Rattle.tables.specs.declared.records.Record.TheVariants.{Communicator, Module, Mode, Task, Read, Write, Dependency, Switch}
 
 -- records of one size and then others
-part_length :
+pub part_length :
     {X : Type 0} (made : X → Record) (n : ℕ) → ((x : X) → length (record_bytes (made x)) ≡ n) → (xs : List X) (rs : List Record) {k : ℕ}
     → length (flat_map record_bytes rs) ≡ k → length (flat_map record_bytes (map made xs ++ rs)) ≡ n * length xs + k
 part_length made n size [] rs e = omega arith

@@ -11,7 +11,7 @@ returns-in_err-unbroken-clause-sound c =
     let count : length (take c.args.len c.args.code) ≡ c.args.len = length-take-le c.args.len c.args.code (omega arith) in
     let refused : is_ok c.from_residual.result ≡ false = search rules in
     let bad : broken c.args.len (map word_of (take c.args.len c.args.code)) ≡ Some c.in_err-unbroken.ensures.0 = ap (λ n. broken n (map word_of (take c.args.len c.args.code))) (sym count) ∙ c.in_err-unbroken.ensures.1 in
-    subst (λ b. Decides b (Sound c.args.len (take c.args.len c.args.code))) (sym refused) (broken_unsound c.args.len (take c.args.len c.args.code) c.in_err-unbroken.ensures.0 count bad)
+    subst (λ b. Decides b (Sound c.args.len (take c.args.len c.args.code))) (sym refused) (broken_unsound c.args.len (take c.args.len c.args.code) c.in_err-unbroken.ensures.0 (λ _. count) bad)
 
 pub returns-clause-sound : goal.returns-clause-sound
 returns-clause-sound c =
