@@ -1,9 +1,10 @@
 -- A search in a list is a search over the numbers below its length.
-use Rattle.std.proofs.Common.{◌≡◌, ℕ, zero, suc, ◌+◌, ◌<◌, min, max, Bool, true, false, cond, ◌&&◌, ◌||◌, List, [], ◌∷◌, map, length, get_or, filter, fold, refl, sym, ap, ◌∙◌, arith}
+use Rattle.std.proofs.Common.{◌≡◌, ℕ, zero, suc, ◌+◌, ◌<◌, ◌≤◌, min, max, Bool, true, false, cond, ◌&&◌, ◌||◌, List, [], ◌∷◌, map, length, get_or, take, filter, fold, refl, sym, ap, ◌∙◌, arith}
 use Rattle.std.proofs.lemmas.Bool.{and_parts}
-use Rattle.std.proofs.lemmas.List.FromFn.{fill_by_all}
+use Rattle.std.proofs.lemmas.List.FromFn.{fill_by_all, length-enumerate_from, get_or-enumerate_from}
 use Rattle.std.proofs.lemmas.List.Sums.{sum_by-cons}
-use Rattle.std.specs.List.{list_any, list_all, count_by, range_with_len}
+use Rattle.std.proofs.lemmas.List.{length-take-le, get_or-take}
+use Rattle.std.specs.List.{list_any, list_all, count_by, range_with_len, enumerate_from}
 use Rattle.lookups.proofs.Searching.{any_some}
 use Rattle.lookups.specs.Searches.{any, every, largest, smallest, total}
 
@@ -38,6 +39,30 @@ pub any_list : {T : Type 0} (p : T → Bool) (d : T) (xs : List T) → list_any 
 unfolding any
 any_list p d [] = refl
 any_list p d (x ∷ xs) = ap (λ b. p x || b) (any_list p d xs) ∙ sym (any_first (λ j. p (get_or (x ∷ xs) j d)) (length xs))
+
+-- a search below a number asks only below it
+any_below : (p q : ℕ → Bool) (n : ℕ) → ((k : ℕ) → k < n → p k ≡ q k) → any p n ≡ any q n
+unfolding any
+any_below p q zero h = refl
+any_below p q (suc n) h =
+    let rest = any_below p q n (λ k l. h k (omega arith)) in
+    let here = h n (omega arith) in
+    cc
+
+-- a search among the first items
+pub any_front : {T : Type 0} (p : T → Bool) (d : T) (xs : List T) (n : ℕ) → n ≤ length xs → list_any p (take n xs) ≡ any (λ j. p (get_or xs j d)) n
+any_front p d xs n h =
+    any_list p d (take n xs)
+    ∙ ap (any (λ j. p (get_or (take n xs) j d))) (length-take-le n xs h)
+    ∙ any_below (λ j. p (get_or (take n xs) j d)) (λ j. p (get_or xs j d)) n (λ k l. ap p (get_or-take n xs k d l))
+
+-- a search among the items with their numbers
+pub any_numbered : {T : Type 0} (p : ℕ → T → Bool) (d : T) (xs : List T) → list_any (λ e. p e.0 e.1) (enumerate_from 0 xs) ≡ any (λ j. p j (get_or xs j d)) (length xs)
+any_numbered p d xs =
+    any_list (λ e. p e.0 e.1) (0, d) (enumerate_from 0 xs)
+    ∙ ap (any (λ j. let e = get_or (enumerate_from 0 xs) j (0, d) in p e.0 e.1)) (length-enumerate_from 0 xs)
+    ∙ any_below (λ j. let e = get_or (enumerate_from 0 xs) j (0, d) in p e.0 e.1) (λ j. p j (get_or xs j d)) (length xs)
+    (λ k l. let same : 0 + k ≡ k = omega arith in ap (λ e. p e.0 e.1) (get_or-enumerate_from 0 xs k (0, d) l) ∙ ap (λ j. p j (get_or xs k d)) same)
 
 -- a test of what items are mapped to
 all_mapped : {X Y : Type 0} (p : Y → Bool) (f : X → Y) (xs : List X) → list_all p (map f xs) ≡ list_all (λ x. p (f x)) xs
