@@ -7,15 +7,18 @@ use crate::Windows;
 use lookups::*;
 use tables::Tables;
 
-// The latest offset of the reads of a task, or 0.
+// The latest offset of the reads of a task, or 0: those of other tasks count as 0, which costs less than a filter.
 pub fn release_offset(tables: &Tables, t: usize) -> u16
     ensures { result ≡ release_offset (station tables.now) t }
 {
     tables
         .reads()
         .iter()
-        .filter(|read| usize::from(read.task) == t)
-        .map(|read| read.offset)
+        .map(|read| if usize::from(read.task) == t {
+            read.offset
+        } else {
+            0
+        })
         .fold(0, u16::max)
 }
 
